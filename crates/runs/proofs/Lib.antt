@@ -1,0 +1,5 @@
+pub mod Bools
+pub mod Bits
+pub mod Counts
+pub mod Turns
+pub mod Pieces

@@ -1,0 +1,14 @@
+-- How many numbers below a bound pass a test, and the lowest that does.
+use Prim.Native.Nat.{ℕ, zero, suc, _+_}
+use mathlib.Core.Bool.{Bool, cond}
+use Rattle.runs.specs.Bits.{bit}
+
+-- how many numbers below n pass the test p
+unfoldable pub count : (p : ℕ → Bool) (n : ℕ) → ℕ
+count p zero = 0
+count p (suc n) = count p n + bit (p n)
+
+-- the lowest number below n that passes the test p, or d where none does
+unfoldable pub lowest : (p : ℕ → Bool) (n d : ℕ) → ℕ
+lowest p zero d = d
+lowest p (suc n) d = lowest p n (cond (p n) n d)
