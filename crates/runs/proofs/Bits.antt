@@ -1,8 +1,8 @@
 -- Laws of fields and bits. Assumes nothing.
-use Prim.Native.Nat.{ℕ, zero, suc, _+_, _-_, _/_, _%_, _^_, _≤_, _<_}
-use mathlib.Core.Path.{_≡_, refl, sym, ap, _∙_, subst}
+use Prim.Native.Nat.{ℕ, zero, suc, _+_, _/_, _%_, _^_, _≤_, _<_}
+use mathlib.Core.Path.{_≡_, refl, sym, subst}
 use mathlib.Core.Bool.{Bool, true, false}
-use native.Mathlib.Nat.{add-sub-cancel-left}
+use native.Mathlib.Nat.{add-sub-cancel-left, div-one, sub-zero}
 use native.Mathlib.Omega.{arith}
 use lib.Dec.{eqb}
 use mir.Val.{boolByte}
@@ -11,6 +11,10 @@ use Rattle.runs.specs.Bits.{bits, bit}
 -- a field whose place is computed
 pub bits-wide : (low wide n : ℕ) → bits (low + wide) low n ≡ n / 2 ^ low % 2 ^ (wide + 1)
 bits-wide low wide n = rw add-sub-cancel-left
+
+-- a field that ends at bit 0
+pub bits-low : (high n : ℕ) → bits high 0 n ≡ n % 2 ^ (high + 1)
+bits-low high n = rw (div-one, sub-zero)
 
 pub bit-le : (b : Bool) → bit b ≤ 1
 bit-le true = omega arith

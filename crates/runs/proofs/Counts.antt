@@ -1,4 +1,4 @@
--- Laws of `count` and `lowest`, over any test. Assumes nothing.
+-- Laws of `all`, `count` and `lowest`, over any test. Assumes nothing.
 use Prim.Native.Nat.{ℕ, zero, suc, _+_, _≤_, _<_}
 use mathlib.Core.Path.{_≡_, refl, sym, ap, _∙_, subst}
 use mathlib.Core.Logic.{_⊎_, inl, inr, ⊎-elim}
@@ -6,14 +6,26 @@ use mathlib.Core.Bool.{Bool, true, false, cond}
 use native.Mathlib.Nat.{le-of-suc-le-suc, not-suc-le-zero, eq-or-lt-of-le, lt-suc-self}
 use native.Mathlib.Omega.{arith}
 use Rattle.runs.specs.Bits.{bit}
-use Rattle.runs.proofs.Bools.{is-false, clash}
-use Rattle.runs.specs.Counts.{count, lowest}
+use Rattle.runs.proofs.Bools.{is-false, clash, both, and-both}
+use Rattle.runs.specs.Counts.{all, count, lowest}
 
 -- a number below suc n is n or below n
 split : {n k : ℕ} → k < suc n → (k ≡ n) ⊎ (k < n)
 split l = eq-or-lt-of-le (le-of-suc-le-suc l)
 
 module _ (p : ℕ → Bool) where
+  pub all-at : (n k : ℕ) → all p n ≡ true → k < n → p k ≡ true
+  unfolding all
+  all-at zero k h l = absurd (not-suc-le-zero l)
+  all-at (suc n) k h l =
+      let t = both (p n) (all p n) h in
+      ⊎-elim (λ (e : k ≡ n). subst (λ (j : ℕ). p j ≡ true) (sym e) (t .0)) (λ (l′ : k < n). all-at n k (t .1) l′) (split l)
+
+  pub all-from : (n : ℕ) → ((k : ℕ) → k < n → p k ≡ true) → all p n ≡ true
+  unfolding all
+  all-from zero h = refl
+  all-from (suc n) h = and-both (h n (lt-suc-self n)) (all-from n (λ k l. h k (omega arith)))
+
   abbrev None : ℕ → Type 0
   None n = (k : ℕ) → k < n → p k ≡ false
 

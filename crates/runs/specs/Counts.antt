@@ -1,7 +1,12 @@
--- How many numbers below a bound pass a test, and the lowest that does.
+-- Whether all numbers below a bound pass a test, how many do, and the lowest that does.
 use Prim.Native.Nat.{ℕ, zero, suc, _+_}
-use mathlib.Core.Bool.{Bool, cond}
+use mathlib.Core.Bool.{Bool, true, cond, _&&_}
 use Rattle.runs.specs.Bits.{bit}
+
+-- every number below n passes the test p
+unfoldable pub all : (p : ℕ → Bool) (n : ℕ) → Bool
+all p zero = true
+all p (suc n) = p n && all p n
 
 -- how many numbers below n pass the test p
 unfoldable pub count : (p : ℕ → Bool) (n : ℕ) → ℕ

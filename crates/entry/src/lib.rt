@@ -1,0 +1,113 @@
+// An entry of the translation buffer, as one number of 64 bits and as its fields; the empty slot; a page's slots.
+ghost use mathlib.Core.Path.{_≡_};
+ghost use Prim.Native.Nat.{_<_, _^_};
+ghost use Rattle.entry.specs.Address.{slotOf};
+ghost use Rattle.entry.specs.Entry.{EntryFits, join, lowBits, pack, unpack};
+ghost use Rattle.entry.specs.Empty.{emptyEntry};
+
+// The 44 bits of an entry, by their fields.
+pub struct Entry {
+    pub vpn15: u32,
+    pub page_id: u32,
+    pub global: bool,
+    pub valid: bool,
+    pub kernel: bool,
+    pub we: bool,
+    pub pfn: u32,
+}
+
+// Bits 43 to 29.
+pub fn vpn15_of(e: u64) -> u32
+    ensures { λ r. ⌜ r ≡ (unpack e) .vpn15 ⌝ }
+{
+    (e / 536870912 % 32768) as u32
+}
+
+// Bits 28 to 23.
+pub fn page_id_of(e: u64) -> u32
+    ensures { λ r. ⌜ r ≡ (unpack e) .«page_id» ⌝ }
+{
+    (e / 8388608 % 64) as u32
+}
+
+// Bit 22.
+pub fn is_global(e: u64) -> bool
+    ensures { λ r. ⌜ r ≡ (unpack e) .global ⌝ }
+{
+    e / 4194304 % 2 == 1
+}
+
+// Bit 21.
+pub fn is_valid(e: u64) -> bool
+    ensures { λ r. ⌜ r ≡ (unpack e) .valid ⌝ }
+{
+    e / 2097152 % 2 == 1
+}
+
+// All fields of a number. Bits 44 and up are ignored.
+pub fn unpack(e: u64) -> Entry
+    ensures { λ r. ⌜ r ≡ unpack e ⌝ }
+{
+    Entry {
+        vpn15: vpn15_of(e),
+        page_id: page_id_of(e),
+        global: is_global(e),
+        valid: is_valid(e),
+        kernel: e / 1048576 % 2 == 1,
+        we: e / 524288 % 2 == 1,
+        pfn: (e % 524288) as u32,
+    }
+}
+
+// An entry from its vpn15, its page_id and its bits 22 to 0.
+pub fn join(vpn15: u32, page_id: u32, low: u32) -> u64
+    requires { ⌜ (vpn15 < 2 ^ 15) × («page_id» < 2 ^ 6) × (low < 2 ^ 23) ⌝ }
+    ensures { λ r. ⌜ r ≡ join vpn15 «page_id» low ⌝ }
+{
+    vpn15 as u64 * 536870912 + page_id as u64 * 8388608 + low as u64
+}
+
+// Bits 22 to 0 of an entry's number.
+fn low_bits(f: Entry) -> u32
+    requires { ⌜ EntryFits f ⌝ }
+    ensures { λ r. ⌜ (r ≡ lowBits f) × (r < 2 ^ 23) ⌝ }
+{
+    f.global as u32 * 4194304
+        + f.valid as u32 * 2097152
+        + f.kernel as u32 * 1048576
+        + f.we as u32 * 524288
+        + f.pfn
+}
+
+// The number of the fields. Bits 44 and up are zero.
+pub fn pack(f: Entry) -> u64
+    requires { ⌜ EntryFits f ⌝ }
+    ensures { λ r. ⌜ r ≡ pack f ⌝ }
+{
+    let low = low_bits(f);
+    join(f.vpn15, f.page_id, low)
+}
+
+// What an empty slot of a set holds.
+pub fn empty_entry(set: u32) -> u64
+    requires { ⌜ set < 4 ⌝ }
+    ensures { λ r. ⌜ r ≡ emptyEntry set ⌝ }
+{
+    pack(Entry {
+        vpn15: set,
+        page_id: 63,
+        global: false,
+        valid: false,
+        kernel: false,
+        we: false,
+        pfn: 0,
+    })
+}
+
+// The slot of a set in which a page's entry stands.
+pub fn slot_of(set: u32, vpn: u32) -> u32
+    requires { ⌜ set < 4 ⌝ }
+    ensures { λ r. ⌜ r ≡ slotOf set vpn ⌝ }
+{
+    16 * set + vpn % 16
+}

@@ -1,0 +1,16 @@
+-- The number that a call is refused with. Each call checks in the order of document 01's table, as far as it has the argument.
+use Prim.Native.Nat.{ℕ}
+use mathlib.Core.Bool.{Bool, cond}
+use lib.Dec.{eqb, leb}
+
+-- a number of the table where its test fails, else what the later checks give; 0 at the end: the call is accepted
+unfoldable pub refuseUnless : (test : Bool) (number later : ℕ) → ℕ
+refuseUnless test number later = cond test later number
+
+-- what a call gives by its refusal's number: one thing where it is accepted, another where it is refused
+unfoldable pub byRefusal : {A : Type 0} (number : ℕ) (accepted refused : A) → A
+byRefusal number accepted refused = cond (eqb number 0) accepted refused
+
+-- number 4: a draw above 3
+unfoldable pub drawFits : (draw : ℕ) → Bool
+drawFits draw = leb draw 3

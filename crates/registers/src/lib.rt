@@ -1,0 +1,166 @@
+// The registers by value, the access that a call is asked for, and what a call replies.
+ghost use mathlib.Core.Path.{_≡_};
+ghost use Prim.Native.Nat.{_<_};
+ghost use Rattle.registers.specs.Fields.{field, fitsAt, fromWords, put, registersFit, toWords, zeroRegisters};
+ghost use Rattle.registers.specs.Replies.{done, refused};
+
+// Numbers 0 to 9 of document 01, then exception value * 2 + write bit.
+// TLB_HI and the cause register share vpn and page_id: tlb_hi is vpn * 64 + page_id.
+pub struct Registers {
+    pub kseg: u32,
+    pub ctrl: u32,
+    pub enable: u32,
+    pub kbase_lo: u32,
+    pub kbase_hi: u32,
+    pub context: u32,
+    pub select: u32,
+    pub tlb_hi: u32,
+    pub tlb_lo: u32,
+    pub test: u32,
+    pub cause: u32,
+}
+
+// One byte address, the mode and the direction; the draw (document 01's word) stands for the random set.
+pub struct Access {
+    pub address: u32,
+    pub user: bool,
+    pub write: bool,
+    pub draw: u32,
+}
+
+pub enum Outcome {
+    At(u32),
+    Fault(u32),
+    Done(u32),
+    Refused(u32),
+}
+
+// A call's outcome, the entries that it loaded, and the registers that it returns.
+pub struct Reply {
+    pub outcome: Outcome,
+    pub loads: u32,
+    pub registers: Registers,
+}
+
+// The least number that is too large for each field.
+const LIMITS: [u64; 11] = [
+    65536,
+    8,
+    2,
+    4294967296,
+    4294967296,
+    64,
+    64,
+    33554432,
+    8388608,
+    2,
+    32,
+];
+
+// The fields in the order of their places.
+pub fn to_words(r: Registers) -> [u32; 11]
+    ensures { λ w. ⌜ w ≡ toWords r ⌝ }
+{
+    [
+        r.kseg,
+        r.ctrl,
+        r.enable,
+        r.kbase_lo,
+        r.kbase_hi,
+        r.context,
+        r.select,
+        r.tlb_hi,
+        r.tlb_lo,
+        r.test,
+        r.cause,
+    ]
+}
+
+pub fn from_words(words: [u32; 11]) -> Registers
+    ensures { λ r. ⌜ r ≡ fromWords words ⌝ }
+{
+    Registers {
+        kseg: words[0],
+        ctrl: words[1],
+        enable: words[2],
+        kbase_lo: words[3],
+        kbase_hi: words[4],
+        context: words[5],
+        select: words[6],
+        tlb_hi: words[7],
+        tlb_lo: words[8],
+        test: words[9],
+        cause: words[10],
+    }
+}
+
+// The field at a place.
+pub fn field(r: Registers, place: u32) -> u32
+    requires { ⌜ place < 11 ⌝ }
+    ensures { λ v. ⌜ v ≡ field r place ⌝ }
+{
+    let words = to_words(r);
+    let at = place as usize;
+    words[at]
+}
+
+// The registers with another value at a place.
+pub fn put(r: Registers, place: u32, value: u32) -> Registers
+    requires { ⌜ place < 11 ⌝ }
+    ensures { λ q. ⌜ q ≡ put r place value ⌝ }
+{
+    let mut words = to_words(r);
+    let at = place as usize;
+    words[at] = value;
+    from_words(words)
+}
+
+// The value is within the bits of the field at a place.
+pub fn fits_at(place: u32, value: u32) -> bool
+    requires { ⌜ place < 11 ⌝ }
+    ensures { λ b. ⌜ b ≡ fitsAt place value ⌝ }
+{
+    let at = place as usize;
+    (value as u64) < LIMITS[at]
+}
+
+// No register field exceeds its bits.
+pub fn registers_fit(r: Registers) -> bool
+    ensures { λ b. ⌜ b ≡ registersFit r ⌝ }
+{
+    let mut left: u32 = 11;
+    while 0 < left {
+        left -= 1;
+        let value = field(r, left);
+        if !fits_at(left, value) {
+            return false;
+        }
+    }
+    true
+}
+
+pub fn zero_registers() -> Registers
+    ensures { λ r. ⌜ r ≡ zeroRegisters ⌝ }
+{
+    from_words([0; 11])
+}
+
+pub fn refused(r: Registers, number: u32) -> Reply
+    ensures { λ s. ⌜ s ≡ refused r number ⌝ }
+{
+    Reply {
+        outcome: Outcome::Refused(number),
+        loads: 0,
+        registers: r,
+    }
+}
+
+pub fn done(r: Registers, value: u32) -> Reply
+    ensures { λ s. ⌜ s ≡ done r value ⌝ }
+{
+    Reply {
+        outcome: Outcome::Done(value),
+        loads: 0,
+        registers: r,
+    }
+}
