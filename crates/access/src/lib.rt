@@ -1,0 +1,171 @@
+// One raw access, once it is accepted: linear segments, the buffer's answer, exceptions, cause and selected slot.
+ghost use mathlib.Core.Path.{_≡_};
+ghost use Prim.Native.Nat.{_<_};
+ghost use Rattle.slots.specs.Buffer.{Buffer};
+ghost use Rattle.access.specs.Segments.{inLinearSegment, linearAddress, segmentBase};
+ghost use Rattle.access.specs.Exceptions.{exceptionValue};
+ghost use Rattle.access.specs.Translation.{Accepted, exceptionAddress, exceptionAnswer, noException, onHit, pageMapped, translate, withCause};
+
+use entry::Entry;
+use registers::{Access, Registers};
+
+// A physical address, or none.
+pub enum Physical {
+    Address(u32),
+    None,
+}
+
+// The four answers of a raw access, and the registers that it leaves.
+pub struct Translation {
+    pub physical: Physical,
+    pub interrupt: bool,
+    pub exception: bool,
+    pub value: u32,
+    pub registers: Registers,
+}
+
+// Supervisor mode, and the segment's bit in KSEG set.
+fn in_linear_segment(kseg: u32, a: Access) -> bool
+    ensures { λ r. ⌜ r ≡ inLinearSegment kseg a ⌝ }
+{
+    let segment = a.address / 268435456 % 16;
+    !a.user & ((kseg >> segment) % 2 == 1)
+}
+
+// The four bits that replace a segment's number.
+fn segment_base(lo: u32, hi: u32, segment: u32) -> u32
+    requires { ⌜ segment < 16 ⌝ }
+    ensures { λ r. ⌜ (r ≡ segmentBase lo hi segment) × (r < 16) ⌝ }
+{
+    if segment < 8 {
+        return (lo >> (4 * segment)) % 16;
+    }
+    (hi >> (4 * (segment - 8))) % 16
+}
+
+fn linear_address(r: Registers, address: u32) -> u32
+    ensures { λ p. ⌜ p ≡ linearAddress r address ⌝ }
+{
+    let base = segment_base(r.kbase_lo, r.kbase_hi, address / 268435456 % 16);
+    base * 268435456 + address % 268435456
+}
+
+// Write error 1, access violation 2, invalid page 4, added up.
+fn exception_value(ctrl: u32, a: Access, f: Entry) -> u32
+    ensures { λ r. ⌜ (r ≡ exceptionValue ctrl a (f .valid) (f .kernel) (f .we)) × (r < 8) ⌝ }
+{
+    let write_error = a.write & !f.we & (ctrl % 2 == 1);
+    let access_violation = a.user & f.kernel & (ctrl / 2 % 2 == 1);
+    let invalid_page = !f.valid & (ctrl / 4 % 2 == 1);
+    write_error as u32 + 2 * access_violation as u32 + 4 * invalid_page as u32
+}
+
+fn no_exception(r: Registers, address: u32) -> Translation
+    ensures { λ t. ⌜ t ≡ noException r address ⌝ }
+{
+    Translation {
+        physical: Physical::Address(address),
+        interrupt: false,
+        exception: false,
+        value: 0,
+        registers: r,
+    }
+}
+
+// SELECT, the vpn and page_id that TLB_HI shares with the cause, the exception value and the write bit.
+fn with_cause(r: Registers, a: Access, slot: u32, value: u32) -> Registers
+    requires { ⌜ (r .context < 64) × (value < 16) ⌝ }
+    ensures { λ q. ⌜ q ≡ withCause r a slot value ⌝ }
+{
+    let mut q = r;
+    q.select = slot;
+    q.tlb_hi = a.address / 8192 % 524288 * 64 + r.context;
+    q.cause = value * 2 + a.write as u32;
+    q
+}
+
+// The address at an exception; `tested` is test mode's.
+fn exception_address(r: Registers, a: Access, tested: Physical) -> Physical
+    ensures { λ p. ⌜ p ≡ exceptionAddress r a tested ⌝ }
+{
+    if r.enable == 0 {
+        return Physical::Address(a.address);
+    }
+    if r.test == 0 {
+        return Physical::None;
+    }
+    tested
+}
+
+fn exception_answer(r: Registers, a: Access, slot: u32, value: u32, tested: Physical) -> Translation
+    requires { ⌜ (r .context < 64) × (value < 16) ⌝ }
+    ensures { λ t. ⌜ t ≡ exceptionAnswer r a slot value tested ⌝ }
+{
+    let physical = exception_address(r, a, tested);
+    let registers = with_cause(r, a, slot, value);
+    Translation {
+        physical,
+        interrupt: (r.enable != 0) & (r.test == 0),
+        exception: true,
+        value,
+        registers,
+    }
+}
+
+// Exactly one slot hit, and its entry has these fields.
+fn on_hit(r: Registers, a: Access, slot: u32, f: Entry) -> Translation
+    requires { ⌜ (r .context < 64) × (f .pfn < 524288) ⌝ }
+    ensures { λ t. ⌜ t ≡ onHit r a slot f ⌝ }
+{
+    let value = exception_value(r.ctrl, a, f);
+    let address = f.pfn * 8192 + a.address % 8192;
+    if value != 0 {
+        return exception_answer(r, a, slot, value, Physical::Address(address));
+    }
+    if r.enable == 0 {
+        return no_exception(r, a.address);
+    }
+    no_exception(r, address)
+}
+
+// The buffer decides: a miss, one hit, or several, which are a bus fault.
+fn page_mapped(r: Registers, buffer: &[u64], a: Access) -> Translation
+    requires { ⌜ Accepted r (Buffer.Wide (now buffer)) a ⌝ }
+    ensures { λ t. ⌜ t ≡ pageMapped r (Buffer.Wide (now (buffer .entry))) a ⌝ }
+{
+    let vpn = a.address / 8192 % 524288;
+    let found = tlb::search(buffer, r.ctrl / 4 % 2 == 1, r.context, vpn, a.draw);
+    let hits = found.number;
+    if hits == 0 {
+        let drawn = entry::slot_of(a.draw, vpn);
+        return exception_answer(r, a, drawn, 8, Physical::None);
+    }
+    if hits == 1 {
+        let slot = entry::slot_of(found.set, vpn);
+        let e = slots::slot_at(buffer, slot);
+        let f = entry::unpack(e);
+        return on_hit(r, a, slot, f);
+    }
+    exception_answer(r, a, r.select, 0, Physical::None)
+}
+
+// The raw access in document 01's three steps.
+pub fn translate(r: Registers, buffer: &[u64], a: Access) -> Translation
+    requires { ⌜ Accepted r (Buffer.Wide (now buffer)) a ⌝ }
+    ensures { λ t. ⌜ t ≡ translate r (Buffer.Wide (now (buffer .entry))) a ⌝ }
+{
+    if in_linear_segment(r.kseg, a) {
+        if r.enable == 0 {
+            return no_exception(r, a.address);
+        }
+        let address = linear_address(r, a.address);
+        return no_exception(r, address);
+    }
+    if r.enable == 0 {
+        if r.test == 0 {
+            return no_exception(r, a.address);
+        }
+        return page_mapped(r, buffer, a);
+    }
+    page_mapped(r, buffer, a)
+}
