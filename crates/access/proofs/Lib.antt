@@ -1,0 +1,3 @@
+pub mod SegmentLaws
+pub mod ExceptionLaws
+pub mod AccessLaws

@@ -1,13 +1,14 @@
 // One raw access, once it is accepted: linear segments, the buffer's answer, exceptions, cause and selected slot.
 ghost use mathlib.Core.Path.{_≡_};
-ghost use Prim.Native.Nat.{_<_};
+ghost use Prim.Native.Nat.{_<_, _≤_};
+ghost use Rattle.runs.specs.Bits.{bit};
 ghost use Rattle.slots.specs.Buffer.{Buffer};
 ghost use Rattle.access.specs.Segments.{inLinearSegment, linearAddress, segmentBase};
 ghost use Rattle.access.specs.Exceptions.{exceptionValue};
 ghost use Rattle.access.specs.Translation.{Accepted, exceptionAddress, exceptionAnswer, noException, onHit, pageMapped, translate, withCause};
-
 use entry::Entry;
-use registers::{Access, Registers};
+use registers::Access;
+use registers::Registers;
 
 // A physical address, or none.
 pub enum Physical {
@@ -50,14 +51,20 @@ fn linear_address(r: Registers, address: u32) -> u32
     base * 268435456 + address % 268435456
 }
 
+fn bit(flag: bool) -> u32
+    ensures { λ r. ⌜ (r ≡ bit flag) × (r ≤ 1) ⌝ }
+{
+    flag as u32
+}
+
 // Write error 1, access violation 2, invalid page 4, added up.
 fn exception_value(ctrl: u32, a: Access, f: Entry) -> u32
     ensures { λ r. ⌜ (r ≡ exceptionValue ctrl a (f .valid) (f .kernel) (f .we)) × (r < 8) ⌝ }
 {
-    let write_error = a.write & !f.we & (ctrl % 2 == 1);
-    let access_violation = a.user & f.kernel & (ctrl / 2 % 2 == 1);
-    let invalid_page = !f.valid & (ctrl / 4 % 2 == 1);
-    write_error as u32 + 2 * access_violation as u32 + 4 * invalid_page as u32
+    let write_error = bit(a.write & !f.we & (ctrl % 2 == 1));
+    let access_violation = bit(a.user & f.kernel & (ctrl / 2 % 2 == 1));
+    let invalid_page = bit(!f.valid & (ctrl / 4 % 2 == 1));
+    write_error + 2 * access_violation + 4 * invalid_page
 }
 
 fn no_exception(r: Registers, address: u32) -> Translation

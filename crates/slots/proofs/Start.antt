@@ -1,5 +1,5 @@
 -- The turns of the loops that make the slots empty. Assumes nothing.
-use Prim.Native.Nat.{ℕ, zero, suc, _+_, _-_, _*_, _/_, _%_, _^_, _≤_, _<_}
+use Prim.Native.Nat.{ℕ, zero, suc, _+_, _-_, _*_, _/_, _≤_, _<_}
 use mathlib.Core.Path.{_≡_, refl, sym, ap, _∙_}
 use mathlib.Core.Bool.{true}
 use mathlib.Core.List.{List, [], _∷_, _++_, append-assoc}
@@ -7,7 +7,7 @@ use mathlib.Core.Logic.{⊎-elim}
 use native.Mathlib.Nat.{add-suc, add-zero, mod-eq-of-lt, not-suc-le-zero, eq-or-lt-of-le, le-of-suc-le-suc, ne-of-lt}
 use native.Mathlib.Numerals.{add-one}
 use native.Mathlib.Omega.{arith}
-use lib.ListN.{length, set, take, drop, replicate, length-set, length-append, length-drop, length-replicate, replicate-append-replicate, take-append-drop}
+use lib.ListN.{length, set, take, drop, replicate, length-set, length-append, length-replicate, replicate-append-replicate, take-append-drop}
 use lib.Seq.{take-suc-set, take-all, set-at, drop-cons, drop-drop, length-take-le}
 use borrow.Rule.Slice.PartMut.{putMid, midOf, mid-len, same-len-mid}
 use Rattle.entry.specs.Address.{setOf}

@@ -1,17 +1,14 @@
 -- Laws of the hit test and of the search, over any set below 4. Assumes nothing.
-use Prim.Native.Nat.{ℕ, _+_, _≤_, _<_}
-use mathlib.Core.Path.{_≡_, refl, sym, ap, _∙_}
-use mathlib.Core.Bool.{Bool, true, false, _&&_, _||_, or-true}
-use native.Mathlib.Omega.{arith}
-use lib.Dec.{lit<}
-use Rattle.runs.specs.Counts.{count, lowest}
+use Prim.Native.Nat.{ℕ, _<_}
+use mathlib.Core.Path.{_≡_, sym, _∙_}
+use mathlib.Core.Bool.{Bool, true, or-true}
 use Rattle.runs.proofs.Counts.{lowest-lt}
 use Rattle.entry.specs.Address.{slotOf}
 use Rattle.entry.specs.Entry.{unpack}
 use Rattle.entry.specs.declared.Entry.{Entry}
 use Rattle.slots.specs.Buffer.{Buffer, slotAt}
 use Rattle.tlb.specs.Hit.{validOrInvExc, vpn15Matches, idMatchesOrGlobal, matchesPage, hit}
-use Rattle.tlb.specs.Search.{fieldsAt, setHits, hitCount, hitSet}
+use Rattle.tlb.specs.Search.{fieldsAt, setHits, hitSet, Searched}
 
 -- each condition reads only its own fields
 pub valid-alike : (inv-exc : Bool) (f g : Entry) → f .valid ≡ g .valid → validOrInvExc inv-exc f ≡ validOrInvExc inv-exc g
@@ -39,6 +36,8 @@ unfolding setHits fieldsAt
 set-told b inv-exc context vpn set slot e t p q h = sym (h ∙ rw (q, p))
 
 -- the set that a search answers is one of the four
-pub hit-set-lt : (b : Buffer) (inv-exc : Bool) (context vpn otherwise : ℕ) → otherwise < 4 → hitSet b inv-exc context vpn otherwise < 4
+pub searched-lt : {b : Buffer} {inv-exc : Bool} {context vpn otherwise number set : ℕ} → Searched b inv-exc context vpn otherwise number set
+    → otherwise < 4 → set < 4
 unfolding hitSet
-hit-set-lt b inv-exc context vpn otherwise l = lowest-lt (setHits b inv-exc context vpn) 4 otherwise l
+searched-lt {b} {inv-exc} {context} {vpn} {otherwise} s l =
+    rw (s .set-is) (lowest-lt (setHits b inv-exc context vpn) 4 otherwise l)

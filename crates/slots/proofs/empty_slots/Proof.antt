@@ -7,10 +7,6 @@ use Rattle.slots.proofs.Slots.{fits-length}
 use Rattle.slots.proofs.Start.{Sets, sets-begin, sets-turn, sets-end}
 use Rattle.slots.proofs.empty_slots.Statement.{statement}
 use Rattle.slots.proofs.empty_slots.Tie as tie
-use Rattle.slots.proofs.empty_slots.Reads as reads
-use Rattle.slots.proofs.empty_slots.Lts as lts
-use Rattle.entry.proofs.empty_entry.Reads as empty-entry-reads
-use Rattle.slots.proofs.fill.Reads as fill-reads
 
 abbrev Inv-loop : tie.InvT-loop
 Inv-loop buffer₀ set₀ buffer set = Sets (Wide buffer₀) buffer set × (length buffer₀ ≡ 64)
@@ -18,63 +14,48 @@ Inv-loop buffer₀ set₀ buffer set = Sets (Wide buffer₀) buffer set × (leng
 abbrev μ-loop : tie.MeasureT-loop
 μ-loop buffer₀ set₀ buffer set = 4 - set
 
--- src/lib.rt:52:5
 loop-holds : tie.Need-loop-holds Inv-loop μ-loop
 loop-holds c = (sets-begin _ (c .before .pre), fits-length _ (c .before .pre))
 
--- src/lib.rt:53:25
 cast-from : tie.Need-cast-from Inv-loop μ-loop
 cast-from c = omega arith
 
--- src/lib.rt:53:20
 mul-from : tie.Need-mul-from Inv-loop μ-loop
 mul-from c = omega arith
 
--- src/lib.rt:54:18
 add-to : tie.Need-add-to Inv-loop μ-loop
 add-to c = omega arith
 
--- src/lib.rt:55:13
 empty-entry-requires : tie.Need-empty-entry-requires Inv-loop μ-loop
 empty-entry-requires c κs = omega arith
 
--- src/lib.rt:56:14
 mul-fill : tie.Need-mul-fill Inv-loop μ-loop
 mul-fill c = omega arith
 
--- src/lib.rt:56:14
 sub-fill : tie.Need-sub-fill Inv-loop μ-loop
 sub-fill c = omega arith
 
--- src/lib.rt:56:14
 part-fill-start : tie.Need-part-fill-start Inv-loop μ-loop
 part-fill-start c = omega arith
 
--- src/lib.rt:56:14
 part-fill-end : tie.Need-part-fill-end Inv-loop μ-loop
 part-fill-end c = omega arith
 
--- src/lib.rt:56:9
 fill-requires : tie.Need-fill-requires Inv-loop μ-loop
 fill-requires c κs = tt
 
--- src/lib.rt:57:9
 add-set : tie.Need-add-set Inv-loop μ-loop
 add-set c = omega arith
 
--- src/lib.rt:52:5
 loop-less : tie.Need-loop-less Inv-loop μ-loop
 loop-less c = omega arith
 
--- src/lib.rt:52:5
 loop-again : tie.Need-loop-again Inv-loop μ-loop
 loop-again c = (sets-turn _ _ _ _ _ (c .before .before .before .before .before .before .loop .inv .0) (omega arith) (c .before .before .before .before .empty-entry .ensures) (c .before .before .fill .ensures), c .before .before .before .before .before .before .loop .inv .1)
 
--- src/lib.rt:47:1
 same-length : tie.Need-same-length Inv-loop μ-loop
 same-length c = c .before .loop .inv .0 .same-length ∙ sym (c .before .loop .inv .1)
 
--- src/lib.rt:47:1
 returns : tie.Need-returns Inv-loop μ-loop
 returns c = sets-end _ _ _ (c .before .loop .inv .0) (omega arith)
 

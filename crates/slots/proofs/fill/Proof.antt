@@ -5,8 +5,6 @@ use lib.ListN.{length}
 use Rattle.slots.proofs.Start.{Filled, fill-begin, fill-turn, fill-end}
 use Rattle.slots.proofs.fill.Statement.{statement}
 use Rattle.slots.proofs.fill.Tie as tie
-use Rattle.slots.proofs.fill.Reads as reads
-use Rattle.slots.proofs.fill.Lts as lts
 
 abbrev Inv-loop : tie.InvT-loop
 Inv-loop part₀ e n i₀ part i = (n ≡ length part₀) × Filled part₀ part e i
@@ -14,35 +12,27 @@ Inv-loop part₀ e n i₀ part i = (n ≡ length part₀) × Filled part₀ part
 abbrev μ-loop : tie.MeasureT-loop
 μ-loop part₀ e n i₀ part i = length part₀ - i
 
--- src/lib.rt:40:5
 loop-holds : tie.Need-loop-holds Inv-loop μ-loop
 loop-holds c = (refl, fill-begin _ _)
 
--- src/lib.rt:41:9
 mul-part : tie.Need-mul-part Inv-loop μ-loop
 mul-part c = omega arith
 
--- src/lib.rt:41:9
 slice-write-part : tie.Need-slice-write-part Inv-loop μ-loop
 slice-write-part c = omega arith
 
--- src/lib.rt:42:9
 add-i : tie.Need-add-i Inv-loop μ-loop
 add-i c = omega arith
 
--- src/lib.rt:40:5
 loop-less : tie.Need-loop-less Inv-loop μ-loop
 loop-less c = omega arith
 
--- src/lib.rt:40:5
 loop-again : tie.Need-loop-again Inv-loop μ-loop
 loop-again c = (refl, fill-turn _ _ _ _ (c .before .loop .inv .1) (omega arith))
 
--- src/lib.rt:35:1
 same-length : tie.Need-same-length Inv-loop μ-loop
 same-length c = c .before .loop .inv .1 .same-length
 
--- src/lib.rt:35:1
 returns : tie.Need-returns Inv-loop μ-loop
 returns c = fill-end _ _ _ _ (c .before .loop .inv .1) (omega arith)
 

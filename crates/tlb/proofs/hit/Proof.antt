@@ -2,20 +2,13 @@ use Rattle.tlb.specs.Hit.{hit}
 use borrow.Author.Needs.{needs}
 use Rattle.tlb.proofs.hit.Statement.{statement}
 use Rattle.tlb.proofs.hit.Tie as tie
-use Rattle.tlb.proofs.hit.Reads as reads
-use Rattle.tlb.proofs.hit.Lts as lts
-use Rattle.tlb.proofs.matches_page.Reads as matches-page-reads
-use Rattle.tlb.proofs.valid_or_inv_exc.Reads as valid-or-inv-exc-reads
 
--- src/lib.rt:45:5
 valid-or-inv-exc-requires : tie.Need-valid-or-inv-exc-requires
 valid-or-inv-exc-requires c κs = search needs
 
--- src/lib.rt:45:36
 matches-page-requires : tie.Need-matches-page-requires
 matches-page-requires c κs = search needs
 
--- src/lib.rt:42:1
 returns : tie.Need-returns
 unfolding hit
 returns c = rw (c .before .valid-or-inv-exc .ensures, c .matches-page .ensures)

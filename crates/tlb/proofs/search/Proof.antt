@@ -10,11 +10,6 @@ use Rattle.tlb.specs.Search.{setHits, hitCount, hitSet}
 use Rattle.tlb.proofs.HitLaws.{set-told}
 use Rattle.tlb.proofs.search.Statement.{statement}
 use Rattle.tlb.proofs.search.Tie as tie
-use Rattle.tlb.proofs.search.Reads as reads
-use Rattle.tlb.proofs.search.Lts as lts
-use Rattle.entry.proofs.slot_of.Reads as slot-of-reads
-use Rattle.slots.proofs.slot_at.Reads as slot-at-reads
-use Rattle.tlb.proofs.hit.Reads as hit-reads
 
 abbrev Inv-loop : tie.InvT-loop
 Inv-loop buffer inv-exc context vpn otherwise number₀ set₀ left₀ number set left = (bufferFits (Wide buffer) ≡ true) × Turn (setHits (Wide buffer) inv-exc context vpn) 4 (hitCount (Wide buffer) inv-exc context vpn) (hitSet (Wide buffer) inv-exc context vpn otherwise) number set left
@@ -22,48 +17,37 @@ Inv-loop buffer inv-exc context vpn otherwise number₀ set₀ left₀ number se
 abbrev μ-loop : tie.MeasureT-loop
 μ-loop buffer inv-exc context vpn otherwise number₀ set₀ left₀ number set left = left
 
--- src/lib.rt:56:5
 loop-holds : tie.Need-loop-holds Inv-loop μ-loop
 unfolding hitCount hitSet
 loop-holds c = (c .before .pre, begin _ 4 _)
 
--- src/lib.rt:57:9
 sub-left : tie.Need-sub-left Inv-loop μ-loop
 sub-left c = omega arith
 
--- src/lib.rt:58:13
 slot-of-requires : tie.Need-slot-of-requires Inv-loop μ-loop
 slot-of-requires c κs = omega arith
 
--- src/lib.rt:59:13
 slot-at-requires : tie.Need-slot-at-requires Inv-loop μ-loop
 slot-at-requires c κs = (c .before .before .loop .inv .0, subst (λ (n : ℕ). n < 64) (sym (c .slot-of .ensures)) (slot-lt _ _ (omega arith)))
 
--- src/lib.rt:60:12
 hit-requires : tie.Need-hit-requires Inv-loop μ-loop
 hit-requires c κs = tt
 
--- src/lib.rt:61:13
 add-number : tie.Need-add-number Inv-loop μ-loop
 add-number c = omega arith
 
--- src/lib.rt:56:5
 loop-less : tie.Need-loop-less Inv-loop μ-loop
 loop-less c = omega arith
 
--- src/lib.rt:56:5
 loop-again : tie.Need-loop-again Inv-loop μ-loop
 loop-again c = (c .before .before .before .before .before .loop .inv .0, turn-hit _ _ _ _ _ _ _ (c .before .before .before .before .before .loop .inv .1) (omega arith) (set-told _ _ _ _ _ _ _ _ (c .before .before .before .slot-of .ensures) (c .before .before .slot-at .ensures) (c .before .hit .ensures) ∙ c .if1 .taken))
 
--- src/lib.rt:56:5
 loop-less-2 : tie.Need-loop-less-2 Inv-loop μ-loop
 loop-less-2 c = omega arith
 
--- src/lib.rt:56:5
 loop-again-2 : tie.Need-loop-again-2 Inv-loop μ-loop
 loop-again-2 c = (c .before .before .before .before .before .loop .inv .0, turn-miss _ _ _ _ _ _ _ (c .before .before .before .before .before .loop .inv .1) (omega arith) (set-told _ _ _ _ _ _ _ _ (c .before .before .before .slot-of .ensures) (c .before .before .slot-at .ensures) (c .before .hit .ensures) ∙ c .if1 .left))
 
--- src/lib.rt:49:1
 returns : tie.Need-returns Inv-loop μ-loop
 returns c = let f = finish _ _ _ _ _ _ _ (c .before .loop .inv .1) (omega arith) in record { number-is = f .0; set-is = f .1 }
 

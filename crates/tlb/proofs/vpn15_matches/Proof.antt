@@ -3,15 +3,10 @@ use Rattle.entry.specs.Address.{vpn15Of}
 use borrow.Author.Needs.{needs}
 use Rattle.tlb.proofs.vpn15_matches.Statement.{statement}
 use Rattle.tlb.proofs.vpn15_matches.Tie as tie
-use Rattle.tlb.proofs.vpn15_matches.Reads as reads
-use Rattle.tlb.proofs.vpn15_matches.Lts as lts
-use Rattle.entry.proofs.vpn15_of.Reads as vpn15-of-reads
 
--- src/lib.rt:25:5
 vpn15-of-requires : tie.Need-vpn15-of-requires
 vpn15-of-requires c κs = search needs
 
--- src/lib.rt:22:1
 returns : tie.Need-returns
 unfolding vpn15Matches vpn15Of
 returns c = rw (c .vpn15-of .ensures)
