@@ -1,0 +1,79 @@
+-- What calls that are not refused were handed, and the ways through a start and a register write. Assumes nothing.
+use Prim.Native.Nat.{ℕ, _/_, _%_, _<_}
+use mathlib.Core.Path.{_≡_, refl, sym, _∙_}
+use mathlib.Core.Bool.{Bool, true, false, not}
+use native.Mathlib.Omega.{arith}
+use lib.Dec.{lit<}
+use borrow.Author.Tests.{ltb-true, eq-eqb, ne-eqb}
+use Rattle.runs.proofs.Bits.{bits-low}
+use Rattle.entry.specs.Entry.{join}
+use Rattle.registers.specs.Fields.{field, toWords, widths, fitsAt, registersFit, zeroRegisters}
+use Rattle.registers.specs.Replies.{refused, done}
+use Rattle.registers.proofs.Fields.{fits-place}
+use Rattle.registers.proofs.RefusalLaws.{passed, refuse-here, refuse-later, when-accepted, when-refused}
+use Rattle.registers.specs.declared.Registers.{Registers}
+use Rattle.registers.specs.declared.Reply.{Reply}
+use Rattle.slots.specs.Buffer.{Buffer, bufferFits, withSlot}
+use Rattle.slots.specs.Start.{startBuffer}
+use Rattle.control.specs.Starting.{startRefusal, startReply, startedBuffer, StartGives}
+use Rattle.control.specs.Writing.{isRegister, writeRefusal, writtenEntry, writtenBuffer}
+use Rattle.control.specs.Reading.{readRefusal}
+
+pub record WriteAccepted (r : Registers) (b : Buffer) (number value : ℕ) : Type 0 where
+  pub registers-fit : registersFit r ≡ true
+  pub buffer-fits : bufferFits b ≡ true
+  pub number-lt : number < 10
+  pub value-fits : fitsAt number value ≡ true
+
+pub write-accepted : (r : Registers) (b : Buffer) (number value : ℕ) → writeRefusal r b number value ≡ 0 → WriteAccepted r b number value
+unfolding writeRefusal isRegister
+write-accepted r b number value h =
+    let one = passed (registersFit r) 1 _ (λ e. omega arith) h in
+    let two = passed (bufferFits b) 2 _ (λ e. omega arith) (one .1) in
+    let known = passed (isRegister number) 7 _ (λ e. omega arith) (two .1) in
+    let small = passed (fitsAt number value) 7 _ (λ e. omega arith) (known .1) in
+    record { registers-fit = one .0; buffer-fits = two .0; number-lt = ltb-true number 10 (known .0); value-fits = small .0 }
+
+pub read-accepted : (r : Registers) (number : ℕ) → readRefusal r number ≡ 0 → number < 10
+unfolding readRefusal isRegister
+read-accepted r number h =
+    let one = passed (registersFit r) 1 _ (λ e. omega arith) h in
+    let known = passed (isRegister number) 7 _ (λ e. omega arith) (one .1) in
+    ltb-true number 10 (known .0)
+
+pub select-lt : (r : Registers) → registersFit r ≡ true → r .select < 64
+unfolding field toWords widths
+select-lt r h = fits-place r 6 h (lit< tt)
+
+pub low-lt : (number value : ℕ) → number ≡ 8 → fitsAt number value ≡ true → value < 8388608
+unfolding fitsAt widths
+low-lt number value e h = ltb-true value 8388608 (rw e at h)
+
+-- the two ways through the write's part on the buffer
+module _ (r : Registers) (b : Buffer) (number value : ℕ) where
+  pub stores : (after : Buffer) (e : ℕ) → number ≡ 8 → e ≡ join (r .«tlb_hi» / 1024 % 32768) (r .«tlb_hi» % 64) value
+      → after ≡ withSlot b (r .select) e → after ≡ writtenBuffer r b number value
+  unfolding writtenBuffer writtenEntry
+  stores after e n j q = q ∙ rw j (sym (rw (eq-eqb number 8 n, bits-low 5 (r .«tlb_hi»))))
+
+  pub stores-none : (number ≡ 8 → ⊥) → b ≡ writtenBuffer r b number value
+  unfolding writtenBuffer
+  stores-none n = sym (rw (ne-eqb number 8 n))
+
+-- the two ways through a start
+module _ (b : Buffer) (t : Bool) (r : Registers) (reply : Reply) (tq : t ≡ bufferFits b) (rq : r ≡ zeroRegisters) where
+  pub start-refused : not t ≡ true → reply ≡ refused r 2 → StartGives b b reply
+  unfolding startRefusal startReply startedBuffer
+  start-refused h q =
+      let two = refuse-here (bufferFits b) t 2 0 tq h in record {
+        reply-is = when-refused _ 2 two _ _ _ (λ e. omega arith) (q ∙ rw (rq, ← two) refl);
+        buffer-is = when-refused _ 2 two _ _ _ (λ e. omega arith) refl;
+      }
+
+  pub start-done : (after : Buffer) → not t ≡ false → reply ≡ done r 0 → after ≡ startBuffer b → StartGives b after reply
+  unfolding startRefusal startReply startedBuffer
+  start-done after h q e =
+      let none = refuse-later (bufferFits b) t 2 0 tq 0 h refl in record {
+        reply-is = when-accepted _ 0 none _ _ _ refl (q ∙ rw rq refl);
+        buffer-is = when-accepted _ 0 none _ _ _ refl e;
+      }

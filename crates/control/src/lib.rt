@@ -1,0 +1,90 @@
+// Start, register writes and register reads.
+ghost use mathlib.Core.Bool.{true};
+ghost use mathlib.Core.Path.{_≡_};
+ghost use Rattle.registers.specs.Fields.{fitsAt, registersFit};
+ghost use Rattle.slots.specs.Buffer.{Buffer, bufferFits};
+ghost use Rattle.control.specs.Starting.{StartGives, startRefusal};
+ghost use Rattle.control.specs.Writing.{WriteGives, writeRefusal, writtenBuffer};
+ghost use Rattle.control.specs.Reading.{ReadGives, readRefusal};
+use registers::Registers;
+use registers::Reply;
+
+// Makes every slot empty and all registers 0. A refused start returns registers that are all 0 and alters nothing.
+pub fn start(buffer: &mut [u64]) -> Reply
+    ensures { λ s. ⌜ StartGives (Buffer.Wide (now (buffer .entry))) (Buffer.Wide (now (buffer .exit))) s ⌝ }
+{
+    let r = registers::zero_registers();
+    if !slots::buffer_fits(buffer) {
+        return registers::refused(r, 2);
+    }
+    slots::empty_slots(buffer);
+    registers::done(r, 0)
+}
+
+fn write_refusal(r: Registers, buffer: &[u64], number: u32, value: u32) -> u32
+    ensures { λ n. ⌜ n ≡ writeRefusal r (Buffer.Wide (now (buffer .entry))) number value ⌝ }
+{
+    if !registers::registers_fit(r) {
+        return 1;
+    }
+    if !slots::buffer_fits(buffer) {
+        return 2;
+    }
+    let is_register = number < 10;
+    if !is_register {
+        return 7;
+    }
+    if !registers::fits_at(number, value) {
+        return 7;
+    }
+    0
+}
+
+// A write to TLB_LO stores the entry at SELECT; no other write touches the buffer.
+fn write_buffer(r: Registers, buffer: &mut [u64], number: u32, value: u32)
+    requires { ⌜ (registersFit r ≡ true) × (bufferFits (Buffer.Wide (now buffer)) ≡ true) × (fitsAt number value ≡ true) ⌝ }
+    ensures { λ _. ⌜ Buffer.Wide (now (buffer .exit)) ≡ writtenBuffer r (Buffer.Wide (now (buffer .entry))) number value ⌝ }
+{
+    if number == 8 {
+        let e = entry::join(r.tlb_hi / 1024 % 32768, r.tlb_hi % 64, value);
+        slots::put_slot(buffer, r.select, e);
+    }
+}
+
+// Writes a register.
+pub fn write_register(r: Registers, buffer: &mut [u64], number: u32, value: u32) -> Reply
+    ensures { λ s. ⌜ WriteGives r (Buffer.Wide (now (buffer .entry))) (Buffer.Wide (now (buffer .exit))) number value s ⌝ }
+{
+    let refusal = write_refusal(r, buffer, number, value);
+    if refusal != 0 {
+        return registers::refused(r, refusal);
+    }
+    write_buffer(r, buffer, number, value);
+    let after = registers::put(r, number, value);
+    registers::done(after, 0)
+}
+
+fn read_refusal(r: Registers, number: u32) -> u32
+    ensures { λ n. ⌜ n ≡ readRefusal r number ⌝ }
+{
+    if !registers::registers_fit(r) {
+        return 1;
+    }
+    let is_register = number < 10;
+    if !is_register {
+        return 7;
+    }
+    0
+}
+
+// Reads a register: the outcome is Done with its value.
+pub fn read_register(r: Registers, number: u32) -> Reply
+    ensures { λ s. ⌜ ReadGives r number s ⌝ }
+{
+    let refusal = read_refusal(r, number);
+    if refusal != 0 {
+        return registers::refused(r, refusal);
+    }
+    let value = registers::field(r, number);
+    registers::done(r, value)
+}

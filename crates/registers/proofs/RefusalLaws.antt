@@ -1,0 +1,32 @@
+-- Laws of refusals, over any test, number and answer. Assumes nothing.
+use Prim.Native.Nat.{ℕ}
+use mathlib.Core.Path.{_≡_, refl, sym, _∙_}
+use mathlib.Core.Bool.{Bool, true, false, not}
+use borrow.Author.Tests.{not-true, not-false, eq-eqb, ne-eqb}
+use Rattle.registers.specs.Refusals.{refuseUnless, byRefusal}
+
+-- a check that the code makes by a test t: it fails, or the later checks decide
+module _ (test t : Bool) (number later : ℕ) (tq : t ≡ test) where
+  pub refuse-here : not t ≡ true → number ≡ refuseUnless test number later
+  unfolding refuseUnless
+  refuse-here h = sym (rw (sym tq ∙ not-true t h))
+
+  pub refuse-later : (n : ℕ) → not t ≡ false → n ≡ later → n ≡ refuseUnless test number later
+  unfolding refuseUnless
+  refuse-later n h q = q ∙ sym (rw (sym tq ∙ not-false t h))
+
+-- what an accepted call tells of a check
+pub passed : (test : Bool) (number later : ℕ) → (number ≡ 0 → ⊥) → refuseUnless test number later ≡ 0 → (test ≡ true) × (later ≡ 0)
+unfolding refuseUnless
+passed true number later ne h = (refl, h)
+passed false number later ne h = absurd (ne h)
+
+-- what a call gives where it is accepted, and where it is refused
+module _ {A : Type 0} (number n : ℕ) (nq : n ≡ number) (accepted refused x : A) where
+  pub when-accepted : n ≡ 0 → x ≡ accepted → x ≡ byRefusal number accepted refused
+  unfolding byRefusal
+  when-accepted z q = q ∙ sym (rw (eq-eqb number 0 (sym nq ∙ z)))
+
+  pub when-refused : (n ≡ 0 → ⊥) → x ≡ refused → x ≡ byRefusal number accepted refused
+  unfolding byRefusal
+  when-refused z q = q ∙ sym (rw (ne-eqb number 0 (λ y. z (nq ∙ y))))
