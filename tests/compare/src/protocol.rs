@@ -93,3 +93,38 @@ fn word_of(four: &[u8]) -> u32 {
     four.iter()
         .fold(0, |word, &byte| (word << 8) | u32::from(byte))
 }
+
+#[cfg(test)]
+mod tests {
+    use super::*;
+
+    #[test]
+    fn a_request_has_its_lengths_and_runs_in_place() {
+        let request = Request {
+            call: Call::Write {
+                number: 8,
+                value: 0x0102_0304,
+            },
+            registers: std::array::from_fn(|n| n as u32),
+            buffer: vec![0x1122_3344_5566_7788],
+            tables: vec![0xAABB_CCDD],
+        };
+        let bytes = request.to_bytes();
+        assert_eq!(bytes.len(), 4 * (8 + 11) + 8 + 4);
+        assert_eq!(bytes[..12], [0, 0, 0, 2, 0, 0, 0, 8, 1, 2, 3, 4]);
+        assert_eq!(bytes[20..32], [0, 0, 0, 1, 0, 0, 0, 1, 0, 0, 0, 0]);
+        assert_eq!(bytes[72..76], [0, 0, 0, 10]);
+        assert_eq!(bytes[76..80], [0x11, 0x22, 0x33, 0x44]);
+        assert_eq!(bytes[84..], [0xAA, 0xBB, 0xCC, 0xDD]);
+    }
+
+    #[test]
+    fn an_answer_is_taken_apart_in_order() {
+        let length = Answer::byte_length(1);
+        let bytes: Vec<u8> = (0..length as u8).collect();
+        let answer = Answer::from_bytes(&bytes);
+        assert_eq!(answer.words[3], 0x0C0D_0E0F);
+        assert_eq!(answer.registers[0], 0x1011_1213);
+        assert_eq!(answer.buffer, [0x3C3D_3E3F_4041_4243]);
+    }
+}

@@ -36,3 +36,15 @@ impl Random {
         choices[self.below(choices.len())]
     }
 }
+
+#[cfg(test)]
+mod tests {
+    use super::Random;
+
+    #[test]
+    fn the_generator_is_splitmix64() {
+        let mut random = Random::new(0);
+        assert_eq!(random.bits64(), 0xE220_A839_7B1D_CDAF);
+        assert_eq!(random.bits64(), 0x6E78_9E6A_A1B9_65F4);
+    }
+}

@@ -115,9 +115,10 @@ impl Forest {
             }
             WhyBroken::NumberZero => PRESENT,
             WhyBroken::WhollyOutside => {
-                let number = match random.below(3) {
+                let number = match random.below(4) {
                     0 => first_outside,
                     1 => first_outside + random.below(65536 - first_outside),
+                    2 => self.number_inside(random, stretch) | 1 << (5 + random.below(11)),
                     _ => 65535,
                 };
                 PRESENT | number as u32

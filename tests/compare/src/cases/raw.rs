@@ -28,17 +28,8 @@ pub fn random(random: &mut Random) -> Request {
     if !random.one_in(8) {
         furnish(random, &mut buffer, registers, page);
     }
-    if random.one_in(8) {
-        let grounds = 1 + random.below(7);
-        if grounds & 1 != 0 {
-            registers = state::spoil(random, registers);
-        }
-        if grounds & 2 != 0 {
-            buffer = state::wrong_buffer(random);
-        }
-        if grounds & 4 != 0 {
-            access.draw = too_large_draw(random);
-        }
+    if random.one_in(8) && state::spoil_a_call(random, &mut registers, &mut buffer) {
+        access.draw = too_large_draw(random);
     }
     request(registers, buffer, access)
 }

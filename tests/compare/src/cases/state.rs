@@ -101,6 +101,19 @@ pub fn empty_slots() -> Vec<u64> {
     buffer
 }
 
+/// Spoils the registers, the buffer, both or neither; true where the call's last argument is
+/// to be spoilt as well. Every set of grounds but none comes up.
+pub fn spoil_a_call(random: &mut Random, registers: &mut Registers, buffer: &mut Vec<u64>) -> bool {
+    let grounds = 1 + random.below(7);
+    if grounds & 1 != 0 {
+        *registers = spoil(random, *registers);
+    }
+    if grounds & 2 != 0 {
+        *buffer = wrong_buffer(random);
+    }
+    grounds & 4 != 0
+}
+
 /// The start's buffer, cut or repeated to a length, with or without junk in the bits that are not read.
 fn started(random: &mut Random, length: usize, junk: bool) -> Vec<u64> {
     let slots = empty_slots();

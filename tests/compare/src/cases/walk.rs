@@ -31,7 +31,7 @@ pub fn without_run(comparison: &mut Comparison) {
 
 pub fn edges(comparison: &mut Comparison, random: &mut Random) {
     pairs_of_endings(comparison, random);
-    reserved_bits(comparison, random);
+    single_bits(comparison, random);
     lengths(comparison, random);
     arguments(comparison, random);
 }
@@ -62,9 +62,10 @@ fn pairs_of_endings(comparison: &mut Comparison, random: &mut Random) {
     }
 }
 
-/// Each reserved bit alone, in a root and in a directory word of either tree.
-fn reserved_bits(comparison: &mut Comparison, random: &mut Random) {
-    for bit in 16..31 {
+/// Each reserved bit and each high bit of the number alone, in a root and in a directory word
+/// of either tree. Any of these bits makes a good word of a run this short a broken one.
+fn single_bits(comparison: &mut Comparison, random: &mut Random) {
+    for bit in 3..31 {
         for root in [GLOBAL_ROOT, random.below(63)] {
             for in_directory in [false, true] {
                 let page = random.bits(19);

@@ -86,17 +86,8 @@ pub fn random(random: &mut Random) -> Request {
         0 => random.pick(&[7, 8, 8, 8]),
         _ => random.below(10) as u32,
     };
-    if random.one_in(4) {
-        let grounds = 1 + random.below(7);
-        if grounds & 1 != 0 {
-            registers = state::spoil(random, registers);
-        }
-        if grounds & 2 != 0 {
-            buffer = state::wrong_buffer(random);
-        }
-        if grounds & 4 != 0 {
-            number = random.pick(&TOO_LARGE);
-        }
+    if random.one_in(4) && state::spoil_a_call(random, &mut registers, &mut buffer) {
+        number = random.pick(&TOO_LARGE);
     }
     let value = value(random, number);
     request(registers, buffer, number, value)

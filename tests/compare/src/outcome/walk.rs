@@ -12,6 +12,8 @@ const CAUSES: [WhyBroken; 4] = [
     WhyBroken::WhollyOutside,
     WhyBroken::PartlyOutside,
 ];
+/// From this bit on, a set bit puts a stretch outside every run that is tried.
+const LOWEST_SINGLE_BIT: u32 = 5;
 const GLOBAL_LEAF: &str = "walk, leaf in the global tree";
 const PAGE_ID_TOO_LARGE: &str = "walk not possible, page_id above 63";
 const VPN_TOO_LARGE: &str = "walk not possible, vpn above 524287";
@@ -28,7 +30,7 @@ pub fn all() -> Vec<String> {
         for tree in TREES {
             all.extend(CAUSES.map(|why| broken(tree, level, why)));
         }
-        all.extend((16..31).map(|bit| reserved_bit(level, bit)));
+        all.extend((LOWEST_SINGLE_BIT..31).map(|bit| single_bit(level, bit)));
         all.push(begins_at_end(level));
         all.push(under_63("broken", level));
     }
@@ -90,17 +92,18 @@ fn of_absent(words: &[u32], decided: Decided, page_id: u32, vpn: u32) -> Vec<Str
 
 fn of_broken(words: &[u32], decided: Decided, why: WhyBroken) -> Vec<String> {
     let mut outcomes = vec![broken(decided.tree, decided.level, why)];
-    let reserved = decided.word & 0x7FFF_0000;
-    let number = (decided.word & 0xFFFF) as usize;
     let length = match decided.level {
         Level::Root => 512,
         _ => 1024,
     };
-    let inside = number > 0 && length * (number + 1) <= words.len();
-    if reserved.is_power_of_two() && inside {
-        outcomes.push(reserved_bit(decided.level, reserved.ilog2()));
+    let number_and_reserved = (decided.word & 0x7FFF_FFFF) as usize;
+    let highest = number_and_reserved.checked_ilog2().unwrap_or(0);
+    let rest = number_and_reserved ^ (1 << highest);
+    let rest_is_inside = rest > 0 && length * (rest + 1) <= words.len();
+    if rest_is_inside && highest >= LOWEST_SINGLE_BIT {
+        outcomes.push(single_bit(decided.level, highest));
     }
-    if reserved == 0 && length * number == words.len() {
+    if length * number_and_reserved == words.len() {
         outcomes.push(begins_at_end(decided.level));
     }
     outcomes
@@ -171,7 +174,7 @@ fn broken(tree: Tree, level: Level, why: WhyBroken) -> String {
     format!("walk, broken at {} of the {tree} tree, {why}", name(level))
 }
 
-fn reserved_bit(level: Level, bit: u32) -> String {
+fn single_bit(level: Level, bit: u32) -> String {
     format!("walk, broken at {} by bit {bit} alone", name(level))
 }
 
