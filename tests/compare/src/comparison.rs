@@ -131,7 +131,7 @@ impl Comparison {
             Some(got) => difference::print(
                 self.cases,
                 &case.request,
-                case.tables.len(),
+                &case.tables,
                 &case.expected,
                 &got,
             ),

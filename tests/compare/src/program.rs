@@ -3,11 +3,14 @@
 use std::collections::VecDeque;
 use std::io::{Read, Write};
 use std::process::{Child, ChildStdin, ChildStdout, Command, Stdio};
-use std::sync::mpsc::{channel, Receiver, RecvTimeoutError, Sender};
+use std::sync::mpsc::{channel, sync_channel, Receiver, RecvTimeoutError, Sender, SyncSender};
 use std::thread;
 use std::time::{Duration, Instant};
 
 const PATIENCE: Duration = Duration::from_secs(20);
+
+/// A program that never stops writing is held back here, and fills no memory.
+const MOST_PIECES_UNREAD: usize = 64;
 
 pub struct Program {
     child: Child,
@@ -27,7 +30,7 @@ impl Program {
         let input = child.stdin.take().expect("the input is a pipe");
         let output = child.stdout.take().expect("the output is a pipe");
         let (requests, to_write) = channel();
-        let (read, answers) = channel();
+        let (read, answers) = sync_channel(MOST_PIECES_UNREAD);
         thread::spawn(move || write_all(input, to_write));
         thread::spawn(move || read_all(output, read));
         Ok(Program {
@@ -120,7 +123,7 @@ fn write_all(mut input: ChildStdin, requests: Receiver<Vec<u8>>) {
     }
 }
 
-fn read_all(mut output: ChildStdout, answers: Sender<Vec<u8>>) {
+fn read_all(mut output: ChildStdout, answers: SyncSender<Vec<u8>>) {
     let mut piece = vec![0; 65536];
     while let Ok(length) = output.read(&mut piece) {
         if length == 0 || answers.send(piece[..length].to_vec()).is_err() {
