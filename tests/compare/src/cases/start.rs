@@ -1,0 +1,36 @@
+//! Starts.
+
+use super::state;
+use crate::comparison::Comparison;
+use crate::protocol::{Call, Request};
+use crate::random::Random;
+use reference::Registers;
+
+fn request(registers: Registers, buffer: Vec<u64>) -> Request {
+    Request {
+        call: Call::Start,
+        registers: registers.to_words(),
+        buffer,
+        tables: Vec::new(),
+    }
+}
+
+/// Every length with good registers and with spoilt ones, which a start never looks at.
+pub fn edges(comparison: &mut Comparison, random: &mut Random) {
+    for length in 0..=80 {
+        let good = state::registers(random);
+        let spoilt = state::spoil(random, good);
+        for registers in [good, spoilt] {
+            comparison.put(request(registers, state::buffer(random, length)));
+        }
+    }
+}
+
+pub fn random(random: &mut Random) -> Request {
+    let registers = state::registers(random);
+    let buffer = match random.below(4) {
+        0 => state::wrong_buffer(random),
+        _ => state::buffer(random, 64),
+    };
+    request(registers, buffer)
+}

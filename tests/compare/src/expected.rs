@@ -1,0 +1,77 @@
+//! The answer that the reference gives to a request.
+
+use crate::protocol::{Answer, Call, Request};
+use reference::*;
+
+const DONE: u32 = 2;
+const REFUSED: u32 = 3;
+
+/// Whether the walk call takes these arguments at all.
+pub fn walk_is_possible(page_id: u32, vpn: u32, tables: &[u32]) -> bool {
+    page_id <= 63 && vpn <= 524_287 && tables.len() >= 64
+}
+
+/// The tables are those of the request, or the ones kept from an earlier request.
+pub fn answer(request: &Request, tables: &[u32]) -> Answer {
+    let registers = Registers::from_words(request.registers);
+    let mut buffer = request.buffer.clone();
+    let (words, registers) = match request.call {
+        Call::Start => {
+            let (done, registers) = start(&mut buffer);
+            (words_of_done(done), registers)
+        }
+        Call::Raw(access) => {
+            let (answer, registers) = raw_access(registers, &buffer, access);
+            (words_of_raw(answer), registers)
+        }
+        Call::Write { number, value } => {
+            let (done, registers) = write_register(registers, &mut buffer, number, value);
+            (words_of_done(done), registers)
+        }
+        Call::Read { number } => (words_of_read(read_register(registers, number)), registers),
+        Call::Walk { page_id, vpn } if walk_is_possible(page_id, vpn, tables) => {
+            (words_of_walk(walk(tables, page_id, vpn)), registers)
+        }
+        Call::Walk { .. } => ([3, 0, 0, 0], registers),
+    };
+    Answer {
+        words,
+        registers: registers.to_words(),
+        buffer,
+    }
+}
+
+fn words_of_done(done: Result<(), Refusal>) -> [u32; 4] {
+    match done {
+        Ok(()) => [DONE, 0, 0, 0],
+        Err(refusal) => [REFUSED, refusal.number(), 0, 0],
+    }
+}
+
+fn words_of_raw(answer: Result<RawAnswer, Refusal>) -> [u32; 4] {
+    match answer {
+        Ok(answer) => [
+            u32::from(answer.address.is_some()),
+            answer.address.unwrap_or(0),
+            u32::from(answer.interrupt) + 2 * u32::from(answer.exception),
+            answer.value,
+        ],
+        Err(refusal) => [2, refusal.number(), 0, 0],
+    }
+}
+
+fn words_of_read(read: Result<u32, Refusal>) -> [u32; 4] {
+    match read {
+        Ok(value) => [0, value, 0, 0],
+        Err(refusal) => [1, refusal.number(), 0, 0],
+    }
+}
+
+fn words_of_walk(walk: Walk) -> [u32; 4] {
+    let global = |decided: Decided| u32::from(decided.tree == Tree::Global);
+    match walk {
+        Walk::Leaf(leaf) => [0, leaf.word, leaf.index as u32, global(leaf)],
+        Walk::Absent(word) => [1, 0, word.level.number(), global(word)],
+        Walk::Broken(word, _) => [2, 0, word.level.number(), global(word)],
+    }
+}

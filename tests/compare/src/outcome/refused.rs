@@ -1,0 +1,115 @@
+//! Outcomes of refusals: every set of grounds that can come together, and each single ground.
+
+use reference::{check_buffer, check_registers, fits, Refusal, Registers, FIELD_BITS, FIELD_NAMES};
+
+/// The wrong buffer lengths that have to be tried.
+pub const WRONG_LENGTHS: [usize; 5] = [0, 1, 63, 65, 80];
+
+/// The numbers of those checks that fail, each asked by itself.
+pub fn grounds(checks: &[Result<(), Refusal>]) -> Vec<u32> {
+    checks
+        .iter()
+        .filter_map(|check| check.err().map(Refusal::number))
+        .collect()
+}
+
+/// An outcome for each set of grounds out of the possible ones, which stand in their order.
+pub fn all_sets_of_grounds(call: &str, possible: &[u32]) -> Vec<String> {
+    (1..1 << possible.len())
+        .map(|set: usize| {
+            let grounds: Vec<u32> = (0..possible.len())
+                .filter(|n| set >> n & 1 == 1)
+                .map(|n| possible[n])
+                .collect();
+            set_of_grounds(call, &grounds, grounds[0])
+        })
+        .collect()
+}
+
+pub fn set_of_grounds(call: &str, grounds: &[u32], refused: u32) -> String {
+    let grounds: Vec<String> = grounds.iter().map(u32::to_string).collect();
+    format!("{call} refused {refused}, grounds {}", grounds.join(" "))
+}
+
+/// Outcomes of the register fields of a call that takes registers.
+pub fn all_fields(call: &str) -> Vec<String> {
+    let mut all = vec![several_fields(call)];
+    for (name, bits) in FIELD_NAMES.iter().zip(FIELD_BITS) {
+        all.push(largest(call, name));
+        if bits < 32 {
+            all.push(first_too_large(call, name));
+        }
+    }
+    all
+}
+
+/// Largest values count in accepted calls, too large ones in calls refused for them alone.
+pub fn of_fields(call: &str, registers: Registers, grounds: &[u32]) -> Vec<String> {
+    let fields = || {
+        let words = registers.to_words().into_iter();
+        words.zip(FIELD_BITS).zip(FIELD_NAMES)
+    };
+    if grounds.is_empty() {
+        return fields()
+            .filter(|((word, bits), _)| u64::from(*word) + 1 == 1u64 << bits)
+            .map(|(_, name)| largest(call, name))
+            .collect();
+    }
+    let too_large: Vec<((u32, u32), &str)> = fields()
+        .filter(|((word, bits), _)| !fits(*word, *bits))
+        .collect();
+    match too_large[..] {
+        [((word, bits), name)] if word == 1 << bits && grounds == [1] => {
+            vec![first_too_large(call, name)]
+        }
+        [_, _, ..] => vec![several_fields(call)],
+        _ => Vec::new(),
+    }
+}
+
+/// Outcomes of the buffer's length.
+pub fn all_lengths(call: &str) -> Vec<String> {
+    WRONG_LENGTHS.map(|n| wrong_length(call, n)).to_vec()
+}
+
+pub fn of_length(call: &str, buffer: &[u64], grounds: &[u32]) -> Vec<String> {
+    if grounds == [2] && WRONG_LENGTHS.contains(&buffer.len()) {
+        return vec![wrong_length(call, buffer.len())];
+    }
+    Vec::new()
+}
+
+/// Outcomes of a register number that is none.
+pub fn all_unknown_numbers(call: &str) -> Vec<String> {
+    [10, 11, u32::MAX]
+        .map(|number| unknown_number(call, number))
+        .to_vec()
+}
+
+pub fn unknown_number(call: &str, number: u32) -> String {
+    match number {
+        10 | u32::MAX => format!("{call} refused 7, number {number}"),
+        _ => format!("{call} refused 7, another unknown number"),
+    }
+}
+
+/// The grounds 1 and 2 of a call that takes registers and a buffer, each with its check.
+pub fn checks_1_and_2(registers: Registers, buffer: &[u64]) -> [Result<(), Refusal>; 2] {
+    [check_registers(registers), check_buffer(buffer)]
+}
+
+fn wrong_length(call: &str, length: usize) -> String {
+    format!("{call} refused 2, buffer of {length}")
+}
+
+fn largest(call: &str, name: &str) -> String {
+    format!("{call} accepted, {name} at its largest value")
+}
+
+fn first_too_large(call: &str, name: &str) -> String {
+    format!("{call} refused 1, {name} alone one past its bits")
+}
+
+fn several_fields(call: &str) -> String {
+    format!("{call} refused 1, several fields too large")
+}
