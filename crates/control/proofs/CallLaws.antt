@@ -4,7 +4,7 @@ use mathlib.Core.Path.{_≡_, refl, sym, _∙_}
 use mathlib.Core.Bool.{Bool, true, false, not}
 use native.Mathlib.Omega.{arith}
 use lib.Dec.{lit<}
-use borrow.Author.Tests.{ltb-true, eq-eqb, ne-eqb}
+use borrow.Author.Tests.{ltb-true, eq-eqb, ne-eqb, not-false}
 use Rattle.runs.proofs.Bits.{bits-low}
 use Rattle.entry.specs.Entry.{join}
 use Rattle.registers.specs.Fields.{field, toWords, widths, fitsAt, registersFit, zeroRegisters}
@@ -19,6 +19,10 @@ use Rattle.control.specs.Starting.{startRefusal, startReply, startedBuff
 use Rattle.control.specs.Writing.{isRegister, writeRefusal, writtenEntry, writtenBuffer}
 use Rattle.control.specs.Reading.{readRefusal}
 
+pub number-below : (number : ℕ) (t : Bool) → t ≡ isRegister number → not t ≡ false → number < 10
+unfolding isRegister
+number-below number t q h = ltb-true number 10 (sym q ∙ not-false t h)
+
 pub record WriteAccepted (r : Registers) (b : Buffer) (number value : ℕ) : Type 0 where
   pub registers-fit : registersFit r ≡ true
   pub buffer-fits : bufferFits b ≡ true
@@ -26,20 +30,20 @@ pub record WriteAccepted (r : Registers) (b : Buffer) (number value : ℕ) : Typ
   pub value-fits : fitsAt number value ≡ true
 
 pub write-accepted : (r : Registers) (b : Buffer) (number value : ℕ) → writeRefusal r b number value ≡ 0 → WriteAccepted r b number value
-unfolding writeRefusal isRegister
+unfolding writeRefusal
 write-accepted r b number value h =
     let one = passed (registersFit r) 1 _ (λ e. omega arith) h in
     let two = passed (bufferFits b) 2 _ (λ e. omega arith) (one .1) in
     let known = passed (isRegister number) 7 _ (λ e. omega arith) (two .1) in
     let small = passed (fitsAt number value) 7 _ (λ e. omega arith) (known .1) in
-    record { registers-fit = one .0; buffer-fits = two .0; number-lt = ltb-true number 10 (known .0); value-fits = small .0 }
+    record { registers-fit = one .0; buffer-fits = two .0; number-lt = number-below number true (sym (known .0)) refl; value-fits = small .0 }
 
 pub read-accepted : (r : Registers) (number : ℕ) → readRefusal r number ≡ 0 → number < 10
-unfolding readRefusal isRegister
+unfolding readRefusal
 read-accepted r number h =
     let one = passed (registersFit r) 1 _ (λ e. omega arith) h in
     let known = passed (isRegister number) 7 _ (λ e. omega arith) (one .1) in
-    ltb-true number 10 (known .0)
+    number-below number true (sym (known .0)) refl
 
 pub select-lt : (r : Registers) → registersFit r ≡ true → r .select < 64
 unfolding field toWords widths

@@ -4,7 +4,7 @@ ghost use mathlib.Core.Path.{_≡_};
 ghost use Rattle.registers.specs.Fields.{fitsAt, registersFit};
 ghost use Rattle.slots.specs.Buffer.{Buffer, bufferFits};
 ghost use Rattle.control.specs.Starting.{StartGives, startRefusal};
-ghost use Rattle.control.specs.Writing.{WriteGives, writeRefusal, writtenBuffer};
+ghost use Rattle.control.specs.Writing.{WriteGives, isRegister, writeRefusal, writtenBuffer};
 ghost use Rattle.control.specs.Reading.{ReadGives, readRefusal};
 use registers::Registers;
 use registers::Reply;
@@ -21,6 +21,13 @@ pub fn start(buffer: &mut [u64]) -> Reply
     registers::done(r, 0)
 }
 
+// Numbers 0 to 9 are registers.
+fn is_register(number: u32) -> bool
+    ensures { λ b. ⌜ b ≡ isRegister number ⌝ }
+{
+    number < 10
+}
+
 fn write_refusal(r: Registers, buffer: &[u64], number: u32, value: u32) -> u32
     ensures { λ n. ⌜ n ≡ writeRefusal r (Buffer.Wide (now (buffer .entry))) number value ⌝ }
 {
@@ -30,8 +37,7 @@ fn write_refusal(r: Registers, buffer: &[u64], number: u32, value: u32) -> u32
     if !slots::buffer_fits(buffer) {
         return 2;
     }
-    let is_register = number < 10;
-    if !is_register {
+    if !is_register(number) {
         return 7;
     }
     if !registers::fits_at(number, value) {
@@ -46,7 +52,8 @@ fn write_buffer(r: Registers, buffer: &mut [u64], number: u32, value: u32)
     ensures { λ _. ⌜ Buffer.Wide (now (buffer .exit)) ≡ writtenBuffer r (Buffer.Wide (now (buffer .entry))) number value ⌝ }
 {
     if number == 8 {
-        let e = entry::join(r.tlb_hi / 1024 % 32768, r.tlb_hi % 64, value);
+        let hi = r.tlb_hi;
+        let e = entry::join(hi / 1024 % 32768, hi % 64, value);
         slots::put_slot(buffer, r.select, e);
     }
 }
@@ -70,8 +77,7 @@ fn read_refusal(r: Registers, number: u32) -> u32
     if !registers::registers_fit(r) {
         return 1;
     }
-    let is_register = number < 10;
-    if !is_register {
+    if !is_register(number) {
         return 7;
     }
     0

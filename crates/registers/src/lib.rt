@@ -100,8 +100,8 @@ pub fn field(r: Registers, place: u32) -> u32
     ensures { λ v. ⌜ v ≡ field r place ⌝ }
 {
     let words = to_words(r);
-    let at = place as usize;
-    words[at]
+    let index = place as usize;
+    words[index]
 }
 
 // The registers with another value at a place.
@@ -120,8 +120,8 @@ pub fn fits_at(place: u32, value: u32) -> bool
     requires { ⌜ place < 11 ⌝ }
     ensures { λ b. ⌜ b ≡ fitsAt place value ⌝ }
 {
-    let at = place as usize;
-    (value as u64) < LIMITS[at]
+    let row = place as usize;
+    (value as u64) < LIMITS[row]
 }
 
 // No register field exceeds its bits.

@@ -27,8 +27,8 @@ pub fn put_slot(buffer: &mut [u64], slot: u32, e: u64)
     requires { ⌜ (bufferFits (Buffer.Wide (now buffer)) ≡ true) × (slot < 64) ⌝ }
     ensures { λ _. ⌜ Buffer.Wide (now (buffer .exit)) ≡ withSlot (Buffer.Wide (now (buffer .entry))) slot e ⌝ }
 {
-    let at = slot as usize;
-    buffer[at] = e % 17592186044416;
+    let index = slot as usize;
+    buffer[index] = e % 17592186044416;
 }
 
 // Every number of a part becomes e.

@@ -1,6 +1,5 @@
 use mathlib.Core.Path.{refl}
 use Rattle.registers.proofs.RefusalLaws.{refuse-here, refuse-later}
-use Rattle.control.specs.Writing.{isRegister}
 use Rattle.control.specs.Reading.{readRefusal}
 use borrow.Author.Needs.{needs}
 use Rattle.control.proofs.read_refusal.Statement.{statement}
@@ -13,13 +12,17 @@ returns : tie.Need-returns
 unfolding readRefusal
 returns c = refuse-here _ _ _ _ (c .before .registers-fit .ensures) (c .if1 .taken)
 
+is-register-requires : tie.Need-is-register-requires
+is-register-requires c κs = search needs
+
 returns-2 : tie.Need-returns-2
-unfolding readRefusal isRegister
-returns-2 c = refuse-later _ _ _ _ (c .before .before .registers-fit .ensures) _ (c .before .if1 .left) (refuse-here _ _ _ _ (refl) (c .if2 .taken))
+unfolding readRefusal
+returns-2 c = refuse-later _ _ _ _ (c .before .before .before .registers-fit .ensures) _ (c .before .before .if1 .left) (refuse-here _ _ _ _ (c .before .is-register .ensures) (c .if2 .taken))
 
 returns-3 : tie.Need-returns-3
-unfolding readRefusal isRegister
-returns-3 c = refuse-later _ _ _ _ (c .before .before .registers-fit .ensures) _ (c .before .if1 .left) (refuse-later _ _ _ _ (refl) _ (c .if2 .left) (refl))
+unfolding readRefusal
+returns-3 c = refuse-later _ _ _ _ (c .before .before .before .registers-fit .ensures) _ (c .before .before .if1 .left) (refuse-later _ _ _ _ (c .before .is-register .ensures) _ (c .if2 .left) (refl))
 
 pub read-refusal-spec : {M : Type 1} → statement M
-read-refusal-spec = tie.close (tie.spec registers-fit-requires returns returns-2 returns-3)
+read-refusal-spec =
+    tie.close (tie.spec registers-fit-requires returns is-register-requires returns-2 returns-3)

@@ -5,16 +5,16 @@ use Rattle.control.proofs.write_buffer.Statement.{statement}
 use Rattle.control.proofs.write_buffer.Tie as tie
 
 join-requires : tie.Need-join-requires
-join-requires c κs = (omega arith, omega arith, low-lt _ _ (c .before .before .if1 .taken) (c .before .before .before .before .pre .2))
+join-requires c κs = (omega arith, omega arith, low-lt _ _ (c .if1 .taken) (c .before .before .pre .2))
 
 put-slot-requires : tie.Need-put-slot-requires
-put-slot-requires c κs = (c .before .before .before .before .before .before .pre .1, select-lt _ (c .before .before .before .before .before .before .pre .0))
+put-slot-requires c κs = (c .before .before .before .before .pre .1, select-lt _ (c .before .before .before .before .pre .0))
 
 same-length : tie.Need-same-length
 same-length c = search needs
 
 returns : tie.Need-returns
-returns c = stores _ _ _ _ _ _ (c .before .before .before .before .before .before .before .if1 .taken) (c .before .before .before .before .join .ensures) (c .before .before .put-slot .ensures)
+returns c = stores _ _ _ _ _ _ (c .before .before .before .before .before .if1 .taken) (c .before .before .before .before .join .ensures) (c .before .before .put-slot .ensures)
 
 returns-2 : tie.Need-returns-2
 returns-2 c = stores-none _ _ _ _ (c .if1 .left)
