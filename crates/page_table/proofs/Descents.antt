@@ -11,7 +11,7 @@ use borrow.Author.Tests.{eq-eqb, ne-eqb}
 use types.Run.{OneOf}
 use denote.Enum.Declared.{tagOf}
 use Rattle.page_table.proofs.Walk.{the-type}
-use Rattle.page_table.specs.Words.{present, number}
+use Rattle.page_table.specs.Words.{present}
 use Rattle.page_table.specs.Stretches.{stretchSize, indexIn, stretch, broken}
 use Rattle.page_table.specs.Walk.{leafAt, stopAt, indexBelow, descend, walkTree, globalFirst, walkPage}
 use Rattle.page_table.specs.declared.Stop.{Stop}

@@ -1,12 +1,11 @@
 -- Laws of the walk: what its answers say, and which tree decides. Assumes nothing.
-use Prim.Native.Nat.{ℕ, zero, suc, _+_, _-_, _*_, _≤_, _<_}
+use Prim.Native.Nat.{ℕ, zero, suc, _≤_, _<_}
 use mathlib.Core.Path.{_≡_, refl, sym, ap, _∙_, subst}
 use mathlib.Core.Bool.{Bool, true, false, cond}
 use mathlib.Core.List.{List}
 use lib.ListN.{length, getD}
 use native.Mathlib.Omega.{arith}
-use Rattle.runs.proofs.Bools.{clash}
-use Rattle.page_table.specs.Words.{present, number}
+use Rattle.page_table.specs.Words.{present}
 use Rattle.page_table.specs.Stretches.{stretchSize, broken}
 use Rattle.page_table.specs.Walk.{leafAt, stopAt, indexBelow, descend, walkTree, globalFirst, walkPage}
 use Rattle.page_table.specs.declared.Found.{Found}

@@ -37,7 +37,11 @@ fn stretch_size(levels: u32) -> usize
 fn index_in(levels: u32, vpn: u32) -> usize
     ensures { λ r. ⌜ r ≡ indexIn levels vpn ⌝ }
 {
-    if levels == 0 { (vpn % 1024) as usize } else { (vpn / 1024) as usize }
+    if levels == 0 {
+        (vpn % 1024) as usize
+    } else {
+        (vpn / 1024) as usize
+    }
 }
 
 // A present root or directory word names no stretch that the walk may go on to.
@@ -70,7 +74,11 @@ fn descend(words: &[u32], vpn: u32, global: bool, levels: u32, word: u32, index:
         return Walk::Absent(Stop { global, level });
     }
     if levels == 0 {
-        return Walk::Leaf(Found { global, word, index });
+        return Walk::Leaf(Found {
+            global,
+            word,
+            index,
+        });
     }
     let below = levels - 1;
     let size = stretch_size(below);
