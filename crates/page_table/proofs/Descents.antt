@@ -19,19 +19,21 @@ use Rattle.page_table.specs.declared.Walk.{Walk}
 use Rattle.page_table.specs.declared.Walk.the-variants.{Leaf, Absent, Broken}
 use Rattle.page_table.proofs.Stretches.{number-is, size-le, index-lt, stretch-length, stretch-at, stretch-room, sound-inside}
 
--- the ways out at the word with an index: absent, a leaf, broken, on to the next word
+-- the four ways at a word: absent, a leaf, broken, on to the next word
 module _ (words : List ℕ) (vpn : ℕ) (global : Bool) where
   pub way-absent : (levels at : ℕ) → present (getD words at 0) ≡ false → Absent (stopAt global levels) ≡ descend words vpn global levels at
   unfolding descend
   way-absent zero at off = sym (rw off)
   way-absent (suc n) at off = sym (rw off)
 
-  pub way-leaf : (levels at : ℕ) → present (getD words at 0) ≡ true → levels ≡ 0 → Leaf (leafAt words global at) ≡ descend words vpn global levels at
+  pub way-leaf : (levels at : ℕ) → present (getD words at 0) ≡ true → levels ≡ 0
+      → Leaf (leafAt words global at) ≡ descend words vpn global levels at
   unfolding descend
   way-leaf levels at on e = sym (rw e (rw on))
 
   pub way-broken : (levels at : ℕ) → present (getD words at 0) ≡ true → (levels ≡ 0 → ⊥)
-      → broken (length words) (stretchSize (levels - 1)) (getD words at 0) ≡ true → Broken (stopAt global levels) ≡ descend words vpn global levels at
+      → broken (length words) (stretchSize (levels - 1)) (getD words at 0) ≡ true
+      → Broken (stopAt global levels) ≡ descend words vpn global levels at
   unfolding descend
   way-broken zero at on more b = absurd (more refl)
   way-broken (suc n) at on more b = sym (rw (on, rw (sub-one (suc n)) at b))
@@ -43,13 +45,13 @@ module _ (words : List ℕ) (vpn : ℕ) (global : Bool) where
   way-on zero at on more b = absurd (more refl)
   way-on (suc n) at on more b = rw (sub-one (suc n)) (sym (rw (on, rw (sub-one (suc n)) at b)))
 
--- the same in the code's words: its word is the run's at an index, and what its calls gave is by their contracts
+-- the same in the code's words: `word` is the run's at an index, and what the calls gave is by their contracts
 module _ (words : List ℕ) (vpn : ℕ) (global : Bool) (levels word at : ℕ) (stands : word ≡ getD words at 0) where
   seen : (b : Bool) → present word ≡ b → present (getD words at 0) ≡ b
   seen b e = subst (λ (w : ℕ). present w ≡ b) stands e
 
-  pub gave-absent : (word / 2147483648 % 2 ≡ 1 → ⊥) → _≡_ {A = Walk} (Absent (record { global = global; level = 3 - levels })) (descend words vpn global levels at)
-  unfolding present stopAt
+  pub gave-absent : (word / 2147483648 % 2 ≡ 1 → ⊥) → Absent (stopAt global levels) ≡ descend words vpn global levels at
+  unfolding present
   gave-absent off = way-absent words vpn global levels at (seen false (ne-eqb (word / 2147483648 % 2) 1 off))
 
   module _ (set : word / 2147483648 % 2 ≡ 1) where
@@ -57,20 +59,20 @@ module _ (words : List ℕ) (vpn : ℕ) (global : Bool) (levels word at : ℕ) (
     unfolding present
     on = seen true (eq-eqb (word / 2147483648 % 2) 1 set)
 
-    pub gave-leaf : levels ≡ 0 → _≡_ {A = Walk} (Leaf (record { global = global; word = word; index = at })) (descend words vpn global levels at)
+    pub gave-leaf : levels ≡ 0 → Leaf (record { global = global; word = word; index = at }) ≡ descend words vpn global levels at
     unfolding leafAt
     gave-leaf e = rw stands (way-leaf words vpn global levels at on e)
 
-    module _ (more : levels ≡ 0 → ⊥) (size : ℕ) (sized : size ≡ stretchSize (levels - 1)) (b : Bool) (judged : b ≡ broken (length words) size word) where
+    module _ (more : levels ≡ 0 → ⊥) (size : ℕ) (sized : size ≡ stretchSize (levels - 1))
+        (b : Bool) (judged : b ≡ broken (length words) size word) where
       verdict : (d : Bool) → b ≡ d → broken (length words) (stretchSize (levels - 1)) (getD words at 0) ≡ d
       verdict d e = rw (← sized, ← stands) (sym judged ∙ e)
 
-      pub gave-broken : b ≡ true → _≡_ {A = Walk} (Broken (record { global = global; level = 3 - levels })) (descend words vpn global levels at)
-      unfolding stopAt
+      pub gave-broken : b ≡ true → Broken (stopAt global levels) ≡ descend words vpn global levels at
       gave-broken e = way-broken words vpn global levels at on more (verdict true e)
 
-      pub gave-on : b ≡ false → (i : ℕ) → i ≡ indexIn (levels - 1) vpn → (r : Walk) → r ≡ descend words vpn global (levels - 1) (size * (word % 65536) + i)
-          → r ≡ descend words vpn global levels at
+      pub gave-on : b ≡ false → (i : ℕ) → i ≡ indexIn (levels - 1) vpn
+          → (r : Walk) → r ≡ descend words vpn global (levels - 1) (size * (word % 65536) + i) → r ≡ descend words vpn global levels at
       unfolding indexBelow
       gave-on e i placed r given =
           given
@@ -97,17 +99,18 @@ module _ (below size vpn i : ℕ) (page : vpn < 524288) (sized : size ≡ stretc
     pub next-stands : getD part i 0 ≡ getD words (size * n + i) 0
     next-stands = rw lent (stretch-at words size n i index-bound)
 
--- both trees
+-- both trees: the `else` of the code knows of the first answer that its case is not absent
 not-absent : (x own : Walk) → OneOf (0 ∷ 2 ∷ []) (tagOf the-type x) → x ≡ globalFirst x own
 unfolding globalFirst
 not-absent (Leaf f) own k = refl
 not-absent (Absent s) own k = absurd (⊎-elim (λ e. omega arith) (λ e. omega arith) k)
 not-absent (Broken s) own k = refl
 
-pub first-decides : (words : List ℕ) (id vpn : ℕ) (x : Walk) → x ≡ walkTree words vpn true 63 → OneOf (0 ∷ 2 ∷ []) (tagOf the-type x) → x ≡ walkPage words id vpn
-unfolding walkPage
-first-decides words id vpn x e k = not-absent x (walkTree words vpn false id) k ∙ ap (λ (y : Walk). globalFirst y (walkTree words vpn false id)) e
+module _ (words : List ℕ) (id vpn : ℕ) (x : Walk) (first : x ≡ walkTree words vpn true 63) where
+  pub first-decides : OneOf (0 ∷ 2 ∷ []) (tagOf the-type x) → x ≡ walkPage words id vpn
+  unfolding walkPage
+  first-decides k = not-absent x (walkTree words vpn false id) k ∙ ap (λ (y : Walk). globalFirst y (walkTree words vpn false id)) first
 
-pub own-decides : (words : List ℕ) (id vpn : ℕ) (x y : Walk) {s : Stop} → x ≡ walkTree words vpn true 63 → x ≡ Absent s → y ≡ walkTree words vpn false id → y ≡ walkPage words id vpn
-unfolding walkPage globalFirst
-own-decides words id vpn x y e a d = d ∙ sym (rw (sym e ∙ a))
+  pub own-decides : {s : Stop} → x ≡ Absent s → (y : Walk) → y ≡ walkTree words vpn false id → y ≡ walkPage words id vpn
+  unfolding walkPage globalFirst
+  own-decides absent y own = own ∙ sym (rw (sym first ∙ absent))

@@ -24,7 +24,8 @@ agree-rest [] js a b h = h
 agree-rest (i ∷ is) js a b h = agree-rest is js a b (h .1)
 
 module _ (a b : List ℕ) (vpn : ℕ) (global : Bool) (same : length a ≡ length b) where
-  pub descend-local : (levels at : ℕ) → Agree (treeReads a vpn levels at) a b → descend a vpn global levels at ≡ descend b vpn global levels at
+  pub descend-local : (levels at : ℕ) → Agree (treeReads a vpn levels at) a b
+      → descend a vpn global levels at ≡ descend b vpn global levels at
   unfolding descend treeReads Agree leadsOn leafAt
   descend-local zero at h = rw (h .0) refl
   descend-local (suc n) at h = rw (← h .0, ← same) (go (present w) (broken (length a) (stretchSize n) w) (h .1) (descend-local n next))
@@ -43,7 +44,8 @@ module _ (a b : List ℕ) (vpn : ℕ) (global : Bool) (same : length a ≡ lengt
       go true false k ih = ih k
       go false q k ih = refl
 
-pub walk-local : (a b : List ℕ) (id vpn : ℕ) → length a ≡ length b → Agree (walkReads a id vpn) a b → walkPage a id vpn ≡ walkPage b id vpn
+pub walk-local : (a b : List ℕ) (id vpn : ℕ) → length a ≡ length b → Agree (walkReads a id vpn) a b
+    → walkPage a id vpn ≡ walkPage b id vpn
 unfolding walkPage walkTree walkReads globalFirst ownReads
 walk-local a b id vpn same h =
     rest (descend a vpn true 2 63) (agree-rest (treeReads a vpn 2 63) _ a b h)
@@ -52,7 +54,8 @@ walk-local a b id vpn same h =
     top : descend a vpn true 2 63 ≡ descend b vpn true 2 63
     top = descend-local a b vpn true same 2 63 (agree-first (treeReads a vpn 2 63) _ a b h)
 
-    rest : (x : Walk) → Agree (ownReads x (treeReads a vpn 2 id)) a b → globalFirst x (descend a vpn false 2 id) ≡ globalFirst x (descend b vpn false 2 id)
+    rest : (x : Walk) → Agree (ownReads x (treeReads a vpn 2 id)) a b
+        → globalFirst x (descend a vpn false 2 id) ≡ globalFirst x (descend b vpn false 2 id)
     rest (Leaf l) k = refl
     rest (Absent s) k = descend-local a b vpn false same 2 id k
     rest (Broken s) k = refl
@@ -72,14 +75,17 @@ module _ (words : List ℕ) (vpn : ℕ) (page : vpn < 524288) where
   pub tree-reads-inside : (levels at : ℕ) → at < length words → AllBelow (length words) (treeReads words vpn levels at)
   unfolding treeReads AllBelow leadsOn
   tree-reads-inside zero at h = (h, tt)
-  tree-reads-inside (suc n) at h = (h, go (present w) (broken (length words) (stretchSize n) w) refl (tree-reads-inside n (indexBelow vpn n w)))
+  tree-reads-inside (suc n) at h = (h, go (present w) (broken (length words) (stretchSize n) w) refl (tree-reads-inside n next))
     where
       w : ℕ
       w = getD words at 0
 
+      next : ℕ
+      next = indexBelow vpn n w
+
       go : (p q : Bool) → broken (length words) (stretchSize n) w ≡ q
-          → (indexBelow vpn n w < length words → AllBelow (length words) (treeReads words vpn n (indexBelow vpn n w)))
-          → AllBelow (length words) (cond (p && not q) (treeReads words vpn n (indexBelow vpn n w)) [])
+          → (next < length words → AllBelow (length words) (treeReads words vpn n next))
+          → AllBelow (length words) (cond (p && not q) (treeReads words vpn n next) [])
       go true true e ih = tt
       go true false e ih = ih (below-inside (length words) vpn n w page e)
       go false q e ih = tt
@@ -90,7 +96,8 @@ module _ (words : List ℕ) (vpn : ℕ) (page : vpn < 524288) where
       below-both (length words) (treeReads words vpn 2 63) _ (tree-reads-inside 2 63 (omega arith))
       (own (walkTree words vpn true 63) (tree-reads-inside 2 id (omega arith)))
     where
-      own : (x : Walk) → AllBelow (length words) (treeReads words vpn 2 id) → AllBelow (length words) (ownReads x (treeReads words vpn 2 id))
+      own : (x : Walk) → AllBelow (length words) (treeReads words vpn 2 id)
+          → AllBelow (length words) (ownReads x (treeReads words vpn 2 id))
       own (Leaf f) k = tt
       own (Absent s) k = k
       own (Broken s) k = tt

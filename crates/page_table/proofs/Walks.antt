@@ -22,7 +22,8 @@ below-inside length vpn n w page sound = omega (arith, index-lt n vpn page, soun
 -- What is so of every leaf and every stop of a tree is so of its walk's answer. A leaf is a present word of the run; a stop's level is
 -- that of a word on the way.
 module _ (words : List ℕ) (vpn : ℕ) (global : Bool) (P : Walk → Type 0) (top : ℕ)
-    (leaf : (at : ℕ) → present (getD words at 0) ≡ true → (vpn < 524288 → top < length words → at < length words) → P (Leaf (leafAt words global at)))
+    (leaf : (at : ℕ) → present (getD words at 0) ≡ true → (vpn < 524288 → top < length words → at < length words)
+    → P (Leaf (leafAt words global at)))
     (absent : (n : ℕ) → n ≤ 2 → P (Absent (stopAt global n)))
     (stuck : (n : ℕ) → n ≤ 2 → P (Broken (stopAt global n))) where
   from : (n at : ℕ) → n ≤ 2 → (vpn < 524288 → top < length words → at < length words) → P (descend words vpn global n at)
@@ -37,9 +38,12 @@ module _ (words : List ℕ) (vpn : ℕ) (global : Bool) (P : Walk → Type 0) (t
       w : ℕ
       w = getD words at 0
 
+      next : Walk
+      next = descend words vpn global n (indexBelow vpn n w)
+
       go : (b d : Bool) → broken (length words) (stretchSize n) w ≡ d
-          → ((vpn < 524288 → top < length words → indexBelow vpn n w < length words) → P (descend words vpn global n (indexBelow vpn n w)))
-          → P (cond b (cond d (Broken (stopAt global (suc n))) (descend words vpn global n (indexBelow vpn n w))) (Absent (stopAt global (suc n))))
+          → ((vpn < 524288 → top < length words → indexBelow vpn n w < length words) → P next)
+          → P (cond b (cond d (Broken (stopAt global (suc n))) next) (Absent (stopAt global (suc n))))
       go true true e ih = stuck (suc n) l
       go true false e ih = ih (λ page inside. below-inside (length words) vpn n w page e)
       go false d e ih = absent (suc n) l
@@ -97,9 +101,13 @@ first-keeps P (Broken s) own p q = p
 module _ (words : List ℕ) (vpn : ℕ) where
   pub walk-level : (id : ℕ) → Levelled (walkPage words id vpn)
   unfolding walkPage
-  walk-level id = first-keeps Levelled (walkTree words vpn true 63) (walkTree words vpn false id) (tree-level words vpn true 63) (tree-level words vpn false id)
+  walk-level id =
+      first-keeps Levelled (walkTree words vpn true 63) (walkTree words vpn false id)
+      (tree-level words vpn true 63)
+      (tree-level words vpn false id)
 
-  pub walk-stands : (id : ℕ) → id ≤ 63 → vpn < 524288 → 64 ≤ length words → (f : Found) → walkPage words id vpn ≡ Leaf f → Stands words f
+  pub walk-stands : (id : ℕ) → id ≤ 63 → vpn < 524288 → 64 ≤ length words
+      → (f : Found) → walkPage words id vpn ≡ Leaf f → Stands words f
   unfolding walkPage
   walk-stands id known page roots =
       first-keeps (λ x. (f : Found) → x ≡ Leaf f → Stands words f) (walkTree words vpn true 63) (walkTree words vpn false id)
@@ -115,16 +123,32 @@ module _ (words : List ℕ) (vpn : ℕ) where
   unfolding walkPage globalFirst
   own-walk id e = rw e
 
+  -- its leaf then gives global 0, and so does the stop of a walk that ends as absent
+  pub own-leaf : (id : ℕ) {s : Stop} {f : Found} → walkTree words vpn true 63 ≡ Absent s → walkPage words id vpn ≡ Leaf f
+      → f .global ≡ false
+  own-leaf id e q = tree-leaf false id (sym (own-walk id e) ∙ q)
+
+  pub absent-own : (id : ℕ) {s : Stop} → walkPage words id vpn ≡ Absent s → s .global ≡ false
+  unfolding walkPage globalFirst whose
+  absent-own id {s} e = go (walkTree words vpn true 63) e
+    where
+      go : (x : Walk) → globalFirst x (walkTree words vpn false id) ≡ Absent s → s .global ≡ false
+      go (Leaf f) q = absurd (let z : _≡_ {A = ℕ} 0 1 = cc in omega arith)
+      go (Absent t) q = sym (ap whose q) ∙ tree-whose words vpn false id
+      go (Broken t) q = absurd (let z : _≡_ {A = ℕ} 0 1 = cc in omega arith)
+
   -- a leaf stands in the tree that it names
   pub leaf-tree : (id : ℕ) (f : Found) → walkPage words id vpn ≡ Leaf f → walkTree words vpn (f .global) (cond (f .global) 63 id) ≡ Leaf f
   unfolding walkPage globalFirst
   leaf-tree id f e = go (walkTree words vpn true 63) refl e
     where
-      there : (g : Bool) → f .global ≡ g → walkTree words vpn g (cond g 63 id) ≡ Leaf f → walkTree words vpn (f .global) (cond (f .global) 63 id) ≡ Leaf f
-      there g q t = subst (λ (k : Bool). walkTree words vpn k (cond k 63 id) ≡ Leaf f) (sym q) t
+      In : Bool → Type 0
+      In g = walkTree words vpn g (cond g 63 id) ≡ Leaf f
 
-      go : (x : Walk) → walkTree words vpn true 63 ≡ x → globalFirst x (walkTree words vpn false id) ≡ Leaf f
-          → walkTree words vpn (f .global) (cond (f .global) 63 id) ≡ Leaf f
+      there : (g : Bool) → f .global ≡ g → In g → In (f .global)
+      there g q t = subst In (sym q) t
+
+      go : (x : Walk) → walkTree words vpn true 63 ≡ x → globalFirst x (walkTree words vpn false id) ≡ Leaf f → In (f .global)
       go (Leaf g) t q = there true (tree-leaf true 63 (t ∙ q)) (t ∙ q)
       go (Absent s) t q = there false (tree-leaf false id q) q
       go (Broken s) t q = absurd (let z : _≡_ {A = ℕ} 0 1 = cc in omega arith)

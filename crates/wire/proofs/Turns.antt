@@ -25,7 +25,8 @@ module _ (bytes : List ℕ) (at w : ℕ) where
   unfolding numberAt
   read-none = let e : w - w ≡ 0 = omega arith in record { some = omega arith; number = rw e; within = rw e (omega arith) }
 
-  pub read-more : (n left byte : ℕ) → Read n left → 0 < left → byte ≡ getD bytes (at + (w - 1 - (left - 1))) 0 → byte < 256 → Read (n * 256 + byte) (left - 1)
+  pub read-more : (n left byte : ℕ) → Read n left → 0 < left → byte ≡ getD bytes (at + (w - 1 - (left - 1))) 0 → byte < 256
+      → Read (n * 256 + byte) (left - 1)
   unfolding numberAt
   read-more n left byte r l e b =
       let next : w - (left - 1) ≡ suc (w - left) = omega (arith, r .some) in
@@ -71,7 +72,10 @@ module _ (w x : ℕ) where
       record {
         some = omega arith;
         long = simp length-set (r .long);
-        same = r .same ∙ rw (now, next, tail bytes place (rest % 256) here) (append-assoc (bytesOf place (rest / 256)) (rest % 256 ∷ []) (drop (suc place) bytes));
+        same =
+            r .same
+            ∙ rw (now, next, tail bytes place (rest % 256) here)
+            (append-assoc (bytesOf place (rest / 256)) (rest % 256 ∷ []) (drop (suc place) bytes));
       }
     where
       tail : (bytes : List ℕ) (k v : ℕ) → k < length bytes → drop k (set bytes k v) ≡ v ∷ drop (suc k) bytes
@@ -132,7 +136,9 @@ module _ (w : ℕ) (xs first : List ℕ) where
       let k : to - from ≡ w = omega arith in
       let piece : length (midOf from (to - from) bytes) ≡ w = mid-front bytes from (to - from) (rw k inside) ∙ k in
       let same : bytes ≡ flat (bytesOf w) (take i xs) ++ drop from first = rw f (r .same) in
-      let more = flat-more (bytesOf w) w (wide w) i from (w * (i + 1)) (to - from) xs first bytes part (f ∙ mul-comm w i) next k inside l same (p ∙ rw piece) in
+      let more =
+      flat-more (bytesOf w) w (wide w) i from (w * (i + 1)) (to - from) xs first bytes part
+      (f ∙ mul-comm w i) next k inside l same (p ∙ rw piece) in
       record { some = omega arith; room = r .room; long = more .0 ∙ r .long; same = more .1 }
 
   pub encoded-all : (bytes : List ℕ) (i : ℕ) → Encoded bytes i → length xs ≤ i → bytes ≡ flat (bytesOf w) xs

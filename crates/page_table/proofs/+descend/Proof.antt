@@ -4,7 +4,9 @@ use native.Mathlib.Nat.{pos-of-ne-zero}
 use native.Mathlib.Omega.{arith}
 use borrow.Fn.Kinds.{In}
 use borrow.Fn.PlainCycle.{Measures, is, falls, and}
-use Rattle.page_table.proofs.Descents.{gave-absent, gave-leaf, gave-broken, gave-on, size-bounds, gave-inside, next-inside, next-stands, room}
+use Rattle.page_table.specs.Walk.{stopAt}
+use Rattle.page_table.proofs.Descents.{gave-absent, gave-leaf, gave-broken, gave-on, size-bounds, gave-inside}
+use Rattle.page_table.proofs.Descents.{next-inside, next-stands, room}
 use Rattle.page_table.proofs.descend.Reads as descend
 use Rattle.page_table.proofs.descend.Kinds as kinds
 use Rattle.page_table.proofs.+descend.Lts-descend as lts
@@ -27,13 +29,24 @@ below t = and 1 kinds.ps (falls 1 kinds.ps _<_ μ t) descend.Pre
 
 -- the contracts of what it calls
 abbrev claims : ℕ → lts.Claims
-claims t =
-    (stretch-size.Asked, stretch-size.Learnt, is-broken.Asked, is-broken.Learnt, stretch.Asked, stretch.Learnt, index-in.Asked, index-in.Learnt, below t, descend.Post)
+claims t = (
+  stretch-size.Asked,
+  stretch-size.Learnt,
+  is-broken.Asked,
+  is-broken.Learnt,
+  stretch.Asked,
+  stretch.Learnt,
+  index-in.Asked,
+  index-in.Learnt,
+  below t,
+  descend.Post,
+)
 
 sub-level : (t : ℕ) → lts.Need-sub-level (claims t) (at t) descend.Post
 sub-level t c = omega arith
 
 returns : (t : ℕ) → lts.Need-returns (claims t) (at t) descend.Post
+unfolding stopAt
 returns t c = gave-absent _ _ _ _ _ _ (c .before .before .pre .1 .2) (c .if1 .taken)
 
 returns-2 : (t : ℕ) → lts.Need-returns-2 (claims t) (at t) descend.Post
@@ -49,9 +62,13 @@ is-broken-requires : (t : ℕ) → lts.Need-is-broken-requires (claims t) (at t)
 is-broken-requires t c κs = size-bounds _ _ (c .stretch-size .ensures)
 
 returns-3 : (t : ℕ) → lts.Need-returns-3 (claims t) (at t) descend.Post
+unfolding stopAt
 returns-3 t c =
     let start = c .before .before .before .before .before .before in
-    gave-broken _ _ _ _ _ _ (start .pre .1 .2) (c .before .before .before .before .if1 .left) (c .before .before .before .if2 .left) _ (c .before .before .stretch-size .ensures) _ (c .before .is-broken .ensures) (c .if3 .taken)
+    let present = c .before .before .before .before .if1 .left in
+    let more = c .before .before .before .if2 .left in
+    let sized = c .before .before .stretch-size .ensures in
+    gave-broken _ _ _ _ _ _ (start .pre .1 .2) present more _ sized _ (c .before .is-broken .ensures) (c .if3 .taken)
 
 cast-number : (t : ℕ) → lts.Need-cast-number (claims t) (at t) descend.Post
 cast-number t c = omega arith
@@ -63,37 +80,54 @@ index-in-requires : (t : ℕ) → lts.Need-index-in-requires (claims t) (at t) d
 index-in-requires t c κs = tt
 
 mul-next : (t : ℕ) → lts.Need-mul-next (claims t) (at t) descend.Post
-mul-next t c = omega (arith, room _ _ _ _ (c .before .before .before .before .before .before .before .before .pre .1 .0) (c .before .before .before .before .stretch-size .ensures) (c .index-in .ensures) 0)
+mul-next t c =
+    let start = c .before .before .before .before .before .before .before .before in
+    let sized = c .before .before .before .before .stretch-size .ensures in
+    omega (arith, room _ _ _ _ (start .pre .1 .0) sized (c .index-in .ensures) (start .args .word))
 
 shared-slice-read-next : (t : ℕ) → lts.Need-shared-slice-read-next (claims t) (at t) descend.Post
 shared-slice-read-next t c =
     let start = c .before .before .before .before .before .before .before .before .before in
-    next-inside _ _ _ _ (start .pre .1 .0) (c .before .before .before .before .before .stretch-size .ensures) (c .before .index-in .ensures) _ _ _ (c .before .before .stretch .ensures) (gave-inside _ _ _ _ (c .before .before .before .before .is-broken .ensures) (c .before .before .before .if3 .left))
+    let sized = c .before .before .before .before .before .stretch-size .ensures in
+    let inside = gave-inside _ _ _ _ (c .before .before .before .before .is-broken .ensures) (c .before .before .before .if3 .left) in
+    next-inside _ _ _ _ (start .pre .1 .0) sized (c .before .index-in .ensures) _ _ _ (c .before .before .stretch .ensures) inside
 
 mul-next-index : (t : ℕ) → lts.Need-mul-next-index (claims t) (at t) descend.Post
 mul-next-index t c =
     let start = c .before .before .before .before .before .before .before .before .before in
-    omega (arith, room _ _ _ _ (start .pre .1 .0) (c .before .before .before .before .before .stretch-size .ensures) (c .before .index-in .ensures) (start .args .word))
+    let sized = c .before .before .before .before .before .stretch-size .ensures in
+    omega (arith, room _ _ _ _ (start .pre .1 .0) sized (c .before .index-in .ensures) (start .args .word))
 
 add-next-index : (t : ℕ) → lts.Need-add-next-index (claims t) (at t) descend.Post
 add-next-index t c =
     let start = c .before .before .before .before .before .before .before .before .before in
-    omega (arith, room _ _ _ _ (start .pre .1 .0) (c .before .before .before .before .before .stretch-size .ensures) (c .before .index-in .ensures) (start .args .word))
+    let sized = c .before .before .before .before .before .stretch-size .ensures in
+    omega (arith, room _ _ _ _ (start .pre .1 .0) sized (c .before .index-in .ensures) (start .args .word))
 
 cast-next-index : (t : ℕ) → lts.Need-cast-next-index (claims t) (at t) descend.Post
 cast-next-index t c =
     let start = c .before .before .before .before .before .before .before .before .before in
-    omega (arith, room _ _ _ _ (start .pre .1 .0) (c .before .before .before .before .before .stretch-size .ensures) (c .before .index-in .ensures) (start .args .word))
+    let sized = c .before .before .before .before .before .stretch-size .ensures in
+    omega (arith, room _ _ _ _ (start .pre .1 .0) sized (c .before .index-in .ensures) (start .args .word))
 
 descend-requires : (t : ℕ) → lts.Need-descend-requires (claims t) (at t) descend.Post
 descend-requires t c κs =
     let start = c .before .before .before .before .before .before .before .before .before in
-    (omega (arith, start .pre .0, pos-of-ne-zero (c .before .before .before .before .before .before .if2 .left)), (start .pre .1 .0, omega arith, next-stands _ _ _ _ (start .pre .1 .0) (c .before .before .before .before .before .stretch-size .ensures) (c .before .index-in .ensures) _ _ _ (c .before .before .stretch .ensures)))
+    let more = pos-of-ne-zero (c .before .before .before .before .before .before .if2 .left) in
+    let sized = c .before .before .before .before .before .stretch-size .ensures in
+    let stands = next-stands _ _ _ _ (start .pre .1 .0) sized (c .before .index-in .ensures) _ _ _ (c .before .before .stretch .ensures) in
+    (omega (arith, start .pre .0, more), (start .pre .1 .0, omega arith, stands))
 
 returns-4 : (t : ℕ) → lts.Need-returns-4 (claims t) (at t) descend.Post
 returns-4 t c =
     let start = c .before .before .before .before .before .before .before .before .before .before in
-    gave-on _ _ _ _ _ _ (start .pre .1 .2) (c .before .before .before .before .before .before .before .before .if1 .left) (c .before .before .before .before .before .before .before .if2 .left) _ (c .before .before .before .before .before .before .stretch-size .ensures) _ (c .before .before .before .before .before .is-broken .ensures) (c .before .before .before .before .if3 .left) _ (c .before .before .index-in .ensures) _ (c .descend .ensures)
+    let present = c .before .before .before .before .before .before .before .before .if1 .left in
+    let more = c .before .before .before .before .before .before .before .if2 .left in
+    let sized = c .before .before .before .before .before .before .stretch-size .ensures in
+    let judged = c .before .before .before .before .before .is-broken .ensures in
+    let sound = c .before .before .before .before .if3 .left in
+    let placed = c .before .before .index-in .ensures in
+    gave-on _ _ _ _ _ _ (start .pre .1 .2) present more _ sized _ judged sound _ placed _ (c .descend .ensures)
 
 pub +descend-spec : {M : Type 1} → statement M
 +descend-spec = close μ λ t. lts.spec (claims t) (at t) descend.Post

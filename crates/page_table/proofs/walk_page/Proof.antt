@@ -17,7 +17,9 @@ walk-tree-requires-2 : tie.Need-walk-tree-requires-2
 walk-tree-requires-2 c κs = search needs
 
 returns-2 : tie.Need-returns-2
-returns-2 c = own-decides _ _ _ _ _ (c .before .before .before .walk-tree .ensures) (c .before .enum-told .given .1) (c .walk-tree2 .ensures)
+returns-2 c =
+    let first = c .before .before .before .walk-tree .ensures in
+    own-decides _ _ _ _ first (c .before .enum-told .given .1) _ (c .walk-tree2 .ensures)
 
 pub walk-page-spec : {M : Type 1} → statement M
 walk-page-spec = tie.close (tie.spec walk-tree-requires enum-told returns walk-tree-requires-2 returns-2)

@@ -48,7 +48,9 @@ loop-less : tie.Need-loop-less Inv-loop μ-loop
 loop-less c = omega arith
 
 loop-again : tie.Need-loop-again Inv-loop μ-loop
-loop-again c = encoded-more _ _ _ _ _ _ _ _ (c .before .before .before .before .before .before .loop .inv) (c .before .before .before .before .before .loop-test .taken) refl refl (c .before .before .put .ensures)
+loop-again c =
+    let turn = c .before .before .before .before .before in
+    encoded-more _ _ _ _ _ _ _ _ (turn .before .loop .inv) (turn .loop-test .taken) refl refl (c .before .before .put .ensures)
 
 same-length : tie.Need-same-length Inv-loop μ-loop
 same-length c = omega arith

@@ -36,13 +36,16 @@ wide-requires c κs = tt
 
 add-number : tie.Need-add-number Inv-loop μ-loop
 add-number c =
-    omega (arith, read-room _ _ _ _ _ (c .before .before .before .loop .inv) (c .before .before .loop-test .taken) (c .before .before .before .before .before .pre .1))
+    let start = c .before .before .before .before .before in
+    omega (arith, read-room _ _ _ _ _ (c .before .before .before .loop .inv) (c .before .before .loop-test .taken) (start .pre .1))
 
 loop-less : tie.Need-loop-less Inv-loop μ-loop
 loop-less c = omega arith
 
 loop-again : tie.Need-loop-again Inv-loop μ-loop
-loop-again c = read-more _ _ _ _ _ _ (c .before .before .before .loop .inv) (c .before .before .loop-test .taken) (c .wide .ensures .0) (c .wide .ensures .1)
+loop-again c =
+    let turn = c .before .before in
+    read-more _ _ _ _ _ _ (turn .before .loop .inv) (turn .loop-test .taken) (c .wide .ensures .0) (c .wide .ensures .1)
 
 returns : tie.Need-returns Inv-loop μ-loop
 returns c = read-all _ _ _ _ _ (c .before .loop .inv) (c .loop-test .left)
