@@ -2,12 +2,12 @@
 use Prim.Native.Nat.{ℕ, zero, suc, _+_, _*_, _/_, _%_, _^_, _<_}
 use mathlib.Core.Path.{_≡_, refl, sym, ap₂, _∙_}
 use mathlib.Core.List.{List, [], _∷_, _++_}
-use native.Mathlib.Nat.{zero-add, pow-suc, lt-suc-self}
+use native.Mathlib.Nat.{zero-add, add-zero, add-suc, add-assoc, mul-assoc, pow-zero, pow-suc, lt-suc-self}
 use native.Mathlib.Numerals.{add-one}
 use native.Mathlib.Omega.{arith}
 use lib.ListN.{length, getD, length-append, List·getD-append}
 use lib.Seq.{getD-at}
-use Rattle.wire.specs.Wire.{bytesOf, numberAt, bytes32, bytes64}
+use Rattle.wire.specs.Wire.{bytesOf, numberAt, bytes32, bytes64, number64At}
 
 -- w bytes are w
 pub wide : (w x : ℕ) → length (bytesOf w x) ≡ w
@@ -28,6 +28,22 @@ pub number-agrees : (a b : List ℕ) (p q w : ℕ) → ((j : ℕ) → j < w → 
 unfolding numberAt
 number-agrees a b p q zero h = refl
 number-agrees a b p q (suc w) h = ap₂ (λ (n d : ℕ). n * 256 + d) (number-agrees a b p q w (λ j l. h j (omega arith))) (h w (lt-suc-self w))
+
+-- v bytes and the w behind them
+pub number-joins : (bytes : List ℕ) (at v w : ℕ) → numberAt v bytes at * 256 ^ w + numberAt w bytes (at + v) ≡ numberAt (v + w) bytes at
+unfolding numberAt
+number-joins bytes at v zero = rw (add-zero v, pow-zero) (omega arith)
+number-joins bytes at v (suc w) =
+    let n = numberAt v bytes at in
+    let e = number-joins bytes at v w in
+    let p : n * (256 ^ w * 256) ≡ n * 256 ^ w * 256 = sym (mul-assoc n (256 ^ w) 256) in
+    rw (add-suc, pow-suc, p, add-assoc at v w) (omega arith)
+
+-- a 64-bit number from its two words
+pub halves64 : (bytes : List ℕ) (i high low : ℕ) → high ≡ numberAt 4 bytes (8 * i) → low ≡ numberAt 4 bytes (8 * i + 4)
+    → high * 4294967296 + low ≡ number64At bytes i
+unfolding number64At
+halves64 bytes i high low h l = rw (h, l) (number-joins bytes (8 * i) 4 4)
 
 -- a number within w bytes is the number of its bytes
 pub number-of-bytes : (w x : ℕ) → x < 256 ^ w → numberAt w (bytesOf w x) 0 ≡ x

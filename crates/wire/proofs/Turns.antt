@@ -37,10 +37,10 @@ module _ (bytes : List ℕ) (at w : ℕ) where
         within = rw (next, pow-suc) (omega (arith, r .within));
       }
 
-  pub read-room : (n left : ℕ) → Read n left → 0 < left → w ≤ 8 → n < 72057594037927936
-  read-room n left r l h =
-      let k : w - left ≤ 7 = omega (arith, r .some) in
-      let p : 256 ^ (w - left) ≤ 256 ^ 7 = pow-le-pow-right (omega arith) k in
+  pub read-room : (n left : ℕ) → Read n left → 0 < left → n < 256 ^ (w - 1)
+  read-room n left r l =
+      let k : w - left ≤ w - 1 = omega (arith, r .some) in
+      let p : 256 ^ (w - left) ≤ 256 ^ (w - 1) = pow-le-pow-right (omega arith) k in
       omega (arith, r .within)
 
   pub read-all : (n left : ℕ) → Read n left → left ≤ 0 → (n ≡ numberAt w bytes at) × (n < 256 ^ w)

@@ -1,26 +1,26 @@
 // Runs of numbers as bytes, most significant first. A number's byte that counts 256 ^ weight is its byte of that weight.
 ghost use mathlib.Core.Path.{_≡_};
-ghost use Prim.Native.Nat.{_+_, _*_, _^_, _≤_, _<_};
+ghost use Prim.Native.Nat.{_+_, _*_, _≤_, _<_};
 ghost use lib.ListN.{length};
 ghost use Rattle.wire.specs.Wire.{bytesOf, numberAt, encoded32, decoded32, encoded64, decoded64};
 
-fn wide(x: u8) -> u64
+fn wide(x: u8) -> u32
     ensures { λ r. ⌜ (r ≡ x) × (r < 256) ⌝ }
 {
-    x as u64
+    x as u32
 }
 
-// The number whose `width` bytes start at an index.
-fn number_at(bytes: &[u8], at: usize, width: usize) -> u64
-    requires { ⌜ (at + width ≤ length (now bytes)) × (width ≤ 8) ⌝ }
-    ensures number { λ r. ⌜ r ≡ numberAt width (now (bytes .entry)) at ⌝ }
-    ensures within { λ r. ⌜ r < 256 ^ width ⌝ }
+// The word whose four bytes start at an index.
+fn word_at(bytes: &[u8], at: usize) -> u32
+    requires { ⌜ at + 4 ≤ length (now bytes) ⌝ }
+    ensures number { λ r. ⌜ r ≡ numberAt 4 (now (bytes .entry)) at ⌝ }
+    ensures within { λ r. ⌜ r < 4294967296 ⌝ }
 {
-    let mut number: u64 = 0;
-    let mut weight = width;
+    let mut number: u32 = 0;
+    let mut weight = 4;
     while 0 < weight {
         weight -= 1;
-        let place = width - 1 - weight;
+        let place = 3 - weight;
         number = number * 256 + wide(bytes[at + place]);
     }
     number
@@ -47,7 +47,7 @@ pub fn decode32(bytes: &[u8], words: &mut [u32])
 {
     let mut i = 0;
     while i < words.len() {
-        words[i] = number_at(bytes, 4 * i, 4) as u32;
+        words[i] = word_at(bytes, 4 * i);
         i += 1;
     }
 }
@@ -73,7 +73,9 @@ pub fn decode64(bytes: &[u8], numbers: &mut [u64])
 {
     let mut i = 0;
     while i < numbers.len() {
-        numbers[i] = number_at(bytes, 8 * i, 8);
+        let high = word_at(bytes, 8 * i) as u64;
+        let low = word_at(bytes, 8 * i + 4) as u64;
+        numbers[i] = high * 4294967296 + low;
         i += 1;
     }
 }

@@ -17,14 +17,11 @@ abbrev μ-loop : tie.MeasureT-loop
 loop-holds : tie.Need-loop-holds Inv-loop μ-loop
 loop-holds c = filled-none _ _ _ refl
 
-mul-number-at : tie.Need-mul-number-at Inv-loop μ-loop
-mul-number-at c = omega arith
+mul-word-at : tie.Need-mul-word-at Inv-loop μ-loop
+mul-word-at c = omega arith
 
-number-at-requires : tie.Need-number-at-requires Inv-loop μ-loop
-number-at-requires c κs = (omega arith, omega arith)
-
-cast-words : tie.Need-cast-words Inv-loop μ-loop
-cast-words c = omega (arith, c .number-at .ensures .1)
+word-at-requires : tie.Need-word-at-requires Inv-loop μ-loop
+word-at-requires c κs = omega arith
 
 mul-words : tie.Need-mul-words Inv-loop μ-loop
 mul-words c = omega arith
@@ -40,7 +37,7 @@ loop-less c = omega arith
 
 loop-again : tie.Need-loop-again Inv-loop μ-loop
 unfolding word32At
-loop-again c = filled-more _ _ _ _ _ (c .before .before .loop .inv) (omega arith) (c .number-at .ensures .0)
+loop-again c = filled-more _ _ _ _ _ (c .before .before .loop .inv) (omega arith) (c .word-at .ensures .0)
 
 same-length : tie.Need-same-length Inv-loop μ-loop
 same-length c = c .before .loop .inv .long
@@ -56,9 +53,8 @@ decode32-spec =
     Inv-loop
     μ-loop
     loop-holds
-    mul-number-at
-    number-at-requires
-    cast-words
+    mul-word-at
+    word-at-requires
     mul-words
     slice-write-words
     add-i

@@ -1,14 +1,14 @@
--- `wire::number_at` meets its contract: the loop's invariant is `Read`, its measure the bytes that are left. Assumes nothing.
+-- `wire::word_at` meets its contract: the loop's invariant is `Read`, its measure the bytes that are left. Assumes nothing.
 use native.Mathlib.Omega.{arith}
 use Rattle.wire.proofs.Turns.{Read, read-none, read-more, read-room, read-all}
-use Rattle.wire.proofs.number_at.Statement.{statement}
-use Rattle.wire.proofs.number_at.Tie as tie
+use Rattle.wire.proofs.word_at.Statement.{statement}
+use Rattle.wire.proofs.word_at.Tie as tie
 
 abbrev Inv-loop : tie.InvT-loop
-Inv-loop bytes at width number₀ weight₀ number weight = Read bytes at width number weight
+Inv-loop bytes at number₀ weight₀ number weight = Read bytes at 4 number weight
 
 abbrev μ-loop : tie.MeasureT-loop
-μ-loop bytes at width number₀ weight₀ number weight = weight
+μ-loop bytes at number₀ weight₀ number weight = weight
 
 loop-holds : tie.Need-loop-holds Inv-loop μ-loop
 loop-holds c = read-none _ _ _
@@ -19,11 +19,8 @@ sub-weight c = omega arith
 sub-place : tie.Need-sub-place Inv-loop μ-loop
 sub-place c = omega arith
 
-sub-place-2 : tie.Need-sub-place-2 Inv-loop μ-loop
-sub-place-2 c = omega arith
-
 mul-number : tie.Need-mul-number Inv-loop μ-loop
-mul-number c = omega (arith, read-room _ _ _ _ _ (c .before .loop .inv) (c .loop-test .taken) (c .before .before .before .pre .1))
+mul-number c = omega (arith, read-room _ _ _ _ _ (c .before .loop .inv) (c .loop-test .taken))
 
 add-wide : tie.Need-add-wide Inv-loop μ-loop
 add-wide c = omega arith
@@ -35,9 +32,7 @@ wide-requires : tie.Need-wide-requires Inv-loop μ-loop
 wide-requires c κs = tt
 
 add-number : tie.Need-add-number Inv-loop μ-loop
-add-number c =
-    let start = c .before .before .before .before .before in
-    omega (arith, read-room _ _ _ _ _ (c .before .before .before .loop .inv) (c .before .before .loop-test .taken) (start .pre .1))
+add-number c = omega (arith, read-room _ _ _ _ _ (c .before .before .before .loop .inv) (c .before .before .loop-test .taken))
 
 loop-less : tie.Need-loop-less Inv-loop μ-loop
 loop-less c = omega arith
@@ -50,8 +45,8 @@ loop-again c =
 returns : tie.Need-returns Inv-loop μ-loop
 returns c = read-all _ _ _ _ _ (c .before .loop .inv) (c .loop-test .left)
 
-pub number-at-spec : {M : Type 1} → statement M
-number-at-spec =
+pub word-at-spec : {M : Type 1} → statement M
+word-at-spec =
     tie.close
     (tie.spec
     Inv-loop
@@ -59,7 +54,6 @@ number-at-spec =
     loop-holds
     sub-weight
     sub-place
-    sub-place-2
     mul-number
     add-wide
     shared-slice-read-wide
