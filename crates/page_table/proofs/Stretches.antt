@@ -24,11 +24,7 @@ fit-bounds words h =
 pub fit-roots : (words : List ℕ) → tablesFit words ≡ true → 64 ≤ length words
 fit-roots words h = omega (arith, fit-bounds words h .0)
 
--- a number has 16 bits
-pub number-lt : (w : ℕ) → number w < 65536
-unfolding number
-number-lt w = omega arith
-
+-- the number in the code's words
 pub number-is : (w : ℕ) → w % 65536 ≡ number w
 unfolding number
 number-is w = omega arith

@@ -76,8 +76,8 @@ tree-level words vpn global root =
 
 -- a leaf is the word at its index, which is present and stands in the run
 pub record Stands (words : List ℕ) (f : Found) : Type 0 where
-  pub on : present (f .word) ≡ true
-  pub read : f .word ≡ getD words (f .index) 0
+  pub isPresent : present (f .word) ≡ true
+  pub isRead : f .word ≡ getD words (f .index) 0
   pub inside : f .index < length words
 
 pub tree-stands : (words : List ℕ) (vpn : ℕ) (global : Bool) (root : ℕ) → vpn < 524288 → root < length words
@@ -87,7 +87,7 @@ tree-stands words vpn global root page inside =
     tree-answers words vpn global (λ x. (f : Found) → x ≡ Leaf f → Stands words f) root
     (λ at on h f e.
     let q : leafAt words global at ≡ f = cc in
-    subst (Stands words) q (record { on = on; read = refl; inside = h page inside }))
+    subst (Stands words) q (record { isPresent = on; isRead = refl; inside = h page inside }))
     (λ n l f e. absurd (let z : _≡_ {A = ℕ} 0 1 = cc in omega arith))
     (λ n l f e. absurd (let z : _≡_ {A = ℕ} 0 1 = cc in omega arith))
 

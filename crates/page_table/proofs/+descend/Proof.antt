@@ -1,5 +1,5 @@
 -- `page_table::descend` meets its contract. It ends because the levels fall. Assumes nothing.
-use Prim.Native.Nat.{ℕ, _<_}
+use Prim.Native.Nat.{ℕ, _+_, _*_, _%_, _≤_, _<_}
 use native.Mathlib.Nat.{pos-of-ne-zero}
 use native.Mathlib.Omega.{arith}
 use borrow.Fn.Kinds.{In}
@@ -92,23 +92,25 @@ shared-slice-read-next t c =
     let inside = gave-inside _ _ _ _ (c .before .before .before .before .is-broken .ensures) (c .before .before .before .if3 .left) in
     next-inside _ _ _ _ (start .pre .1 .0) sized (c .before .index-in .ensures) _ _ _ (c .before .before .stretch .ensures) inside
 
-mul-next-index : (t : ℕ) → lts.Need-mul-next-index (claims t) (at t) descend.Post
-mul-next-index t c =
+-- the next word's index is below 2 ^ 26
+next-room : (t : ℕ) (c : lts.After-shared-slice-known2 (claims t) (at t) descend.Post)
+    → c .before .before .before .before .before .stretch-size .result
+    * (c .before .before .before .before .before .before .before .before .before .args .word % 65536)
+    + c .before .index-in .result
+    ≤ 67108863
+next-room t c =
     let start = c .before .before .before .before .before .before .before .before .before in
     let sized = c .before .before .before .before .before .stretch-size .ensures in
-    omega (arith, room _ _ _ _ (start .pre .1 .0) sized (c .before .index-in .ensures) (start .args .word))
+    room _ _ _ _ (start .pre .1 .0) sized (c .before .index-in .ensures) (start .args .word)
+
+mul-next-index : (t : ℕ) → lts.Need-mul-next-index (claims t) (at t) descend.Post
+mul-next-index t c = omega (arith, next-room t c)
 
 add-next-index : (t : ℕ) → lts.Need-add-next-index (claims t) (at t) descend.Post
-add-next-index t c =
-    let start = c .before .before .before .before .before .before .before .before .before in
-    let sized = c .before .before .before .before .before .stretch-size .ensures in
-    omega (arith, room _ _ _ _ (start .pre .1 .0) sized (c .before .index-in .ensures) (start .args .word))
+add-next-index t c = omega (arith, next-room t c)
 
 cast-next-index : (t : ℕ) → lts.Need-cast-next-index (claims t) (at t) descend.Post
-cast-next-index t c =
-    let start = c .before .before .before .before .before .before .before .before .before in
-    let sized = c .before .before .before .before .before .stretch-size .ensures in
-    omega (arith, room _ _ _ _ (start .pre .1 .0) sized (c .before .index-in .ensures) (start .args .word))
+cast-next-index t c = omega (arith, next-room t c)
 
 descend-requires : (t : ℕ) → lts.Need-descend-requires (claims t) (at t) descend.Post
 descend-requires t c κs =
