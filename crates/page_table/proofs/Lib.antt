@@ -1,0 +1,4 @@
+pub mod Stretches
+pub mod Descents
+pub mod Walks
+pub mod Local

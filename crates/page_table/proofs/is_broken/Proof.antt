@@ -1,0 +1,24 @@
+-- `page_table::is_broken` meets its contract: `broken-last` turns the index of the stretch's last word into its end. Assumes nothing.
+use borrow.Author.Needs.{needs}
+use native.Mathlib.Omega.{arith}
+use Rattle.page_table.proofs.Stretches.{stretch-room, broken-last}
+use Rattle.page_table.proofs.is_broken.Statement.{statement}
+use Rattle.page_table.proofs.is_broken.Tie as tie
+
+cast-number : tie.Need-cast-number
+cast-number c = search needs
+
+mul-last : tie.Need-mul-last
+mul-last c = omega (arith, stretch-room (c .args .size) (c .args .word) (c .pre .1))
+
+sub-last : tie.Need-sub-last
+sub-last c = search needs
+
+add-last : tie.Need-add-last
+add-last c = omega (arith, stretch-room (c .args .size) (c .args .word) (c .pre .1))
+
+returns : tie.Need-returns
+returns c = broken-last _ _ _ (c .pre .0)
+
+pub is-broken-spec : {M : Type 1} → statement M
+is-broken-spec = tie.close (tie.spec cast-number mul-last sub-last add-last returns)

@@ -1,0 +1,5 @@
+pub mod Words
+pub mod Stretches
+pub mod Walk
+pub mod Faults
+pub mod Reads

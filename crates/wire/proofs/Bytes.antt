@@ -1,0 +1,65 @@
+-- Laws of a number's bytes, over their count. Assumes nothing.
+use Prim.Native.Nat.{ℕ, zero, suc, _+_, _*_, _/_, _%_, _^_, _<_}
+use mathlib.Core.Path.{_≡_, refl, sym, ap₂, _∙_}
+use mathlib.Core.List.{List, [], _∷_, _++_}
+use native.Mathlib.Nat.{zero-add, add-zero, add-suc, add-assoc, mul-assoc, pow-zero, pow-suc, lt-suc-self}
+use native.Mathlib.Numerals.{add-one}
+use native.Mathlib.Omega.{arith}
+use lib.ListN.{length, getD, length-append, List·getD-append}
+use lib.Seq.{getD-at}
+use Rattle.wire.specs.Wire.{bytesOf, numberAt, bytes32, bytes64, number64At}
+
+-- w bytes are w
+pub wide : (w x : ℕ) → length (bytesOf w x) ≡ w
+unfolding bytesOf
+wide zero x = refl
+wide (suc w) x = length-append (bytesOf w (x / 256)) (x % 256 ∷ []) ∙ rw (wide w (x / 256)) (add-one w)
+
+pub wide32 : (x : ℕ) → length (bytes32 x) ≡ 4
+unfolding bytes32
+wide32 x = wide 4 x
+
+pub wide64 : (x : ℕ) → length (bytes64 x) ≡ 8
+unfolding bytes64
+wide64 x = wide 8 x
+
+-- where two runs have the same w bytes, they have the same number
+pub number-agrees : (a b : List ℕ) (p q w : ℕ) → ((j : ℕ) → j < w → getD a (p + j) 0 ≡ getD b (q + j) 0) → numberAt w a p ≡ numberAt w b q
+unfolding numberAt
+number-agrees a b p q zero h = refl
+number-agrees a b p q (suc w) h = ap₂ (λ (n d : ℕ). n * 256 + d) (number-agrees a b p q w (λ j l. h j (omega arith))) (h w (lt-suc-self w))
+
+-- v bytes and the w behind them
+pub number-joins : (bytes : List ℕ) (at v w : ℕ) → numberAt v bytes at * 256 ^ w + numberAt w bytes (at + v) ≡ numberAt (v + w) bytes at
+unfolding numberAt
+number-joins bytes at v zero = rw (add-zero v, pow-zero) (omega arith)
+number-joins bytes at v (suc w) =
+    let n = numberAt v bytes at in
+    let e = number-joins bytes at v w in
+    let p : n * (256 ^ w * 256) ≡ n * 256 ^ w * 256 = sym (mul-assoc n (256 ^ w) 256) in
+    rw (add-suc, pow-suc, p, add-assoc at v w) (omega arith)
+
+-- a 64-bit number from its two words
+pub halves64 : (bytes : List ℕ) (i high low : ℕ) → high ≡ numberAt 4 bytes (8 * i) → low ≡ numberAt 4 bytes (8 * i + 4)
+    → high * 4294967296 + low ≡ number64At bytes i
+unfolding number64At
+halves64 bytes i high low h l = rw (h, l) (number-joins bytes (8 * i) 4 4)
+
+-- a number within w bytes is the number of its bytes
+pub number-of-bytes : (w x : ℕ) → x < 256 ^ w → numberAt w (bytesOf w x) 0 ≡ x
+unfolding bytesOf numberAt
+number-of-bytes zero x h = omega arith
+number-of-bytes (suc w) x h =
+    rw (upper (number-of-bytes w (x / 256) (let p = rw pow-suc at h in omega arith)), lowest) (omega arith)
+  where
+    front : List ℕ
+    front = bytesOf w (x / 256)
+
+    upper : numberAt w front 0 ≡ x / 256 → numberAt w (front ++ (x % 256 ∷ [])) 0 ≡ x / 256
+    upper e =
+        number-agrees (front ++ (x % 256 ∷ [])) front 0 0 w
+        (λ j l. List·getD-append front (x % 256 ∷ []) 0 (0 + j) (rw (wide w (x / 256), zero-add) l))
+        ∙ e
+
+    lowest : getD (front ++ (x % 256 ∷ [])) (0 + w) 0 ≡ x % 256
+    lowest = getD-at front (x % 256) [] 0 (0 + w) (wide w (x / 256) ∙ sym (zero-add w))
