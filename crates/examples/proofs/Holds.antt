@@ -1,0 +1,42 @@
+-- Every example holds, computed from the definitions. Assumes nothing.
+use mathlib.Core.Path.{_≡_, refl}
+use Rattle.runs.specs.Counts.{all, count, lowest}
+use Rattle.entry.specs.Address.{vpnOf, offsetOf, location, vpn15Of, slotOf, setOf}
+use Rattle.entry.specs.Entry.{unpack, join, lowBits, pack}
+use Rattle.entry.specs.Empty.{emptyFields, emptyEntry}
+use Rattle.registers.specs.Fields.{toWords, fromWords, field, put, widths, fitsAt, registersFit, zeroRegisters}
+use Rattle.registers.specs.Refusals.{refuseUnless, byRefusal, drawFits}
+use Rattle.page_table.specs.Words.{present, reserved, number}
+use Rattle.page_table.specs.Stretches.{stretchSize, indexIn, inside, broken}
+use Rattle.page_table.specs.Walk.{leafAt, stopAt, indexBelow, descend, walkTree, globalFirst, walkPage}
+use Rattle.slots.specs.Buffer.{bufferFits, slotAt, withSlot}
+use Rattle.slots.specs.Start.{emptyFirst, startBuffer}
+use Rattle.tlb.specs.Hit.{validOrInvExc, vpn15Matches, idMatchesOrGlobal, matchesPage, hit}
+use Rattle.tlb.specs.Search.{fieldsAt, setHits, hitCount, hitSet}
+use Rattle.access.specs.Segments.{segmentOf, inLinearSegment, nibble, segmentBase, linearAddress}
+use Rattle.access.specs.Exceptions.{invExc, accExc, weExc, writeError, accessViolation, invalidPage, exceptionValue}
+use Rattle.access.specs.Translation.{pageAddress, isSet, noException, withCause, exceptionAddress, interrupts, exceptionAnswer, hitValue, onHit, byHitCount, foundSet, pageMapped, translate}
+use Rattle.mmu.specs.RawAccess.{rawRefusal, rawReply}
+use Rattle.control.specs.Starting.{startRefusal, startReply, startedBuffer}
+use Rattle.control.specs.Writing.{isRegister, writeRefusal, writtenEntry, writtenBuffer, writeReply, bufferAfterWrite}
+use Rattle.control.specs.Reading.{readRefusal, readReply}
+use Rattle.examples.specs.Claims.{Values, allComputed, allOwed}
+use Rattle.examples.specs.Setting.{registersWith, started, user, supervisor, answered, entryWith, oneEntry, twoEntries}
+use Rattle.examples.specs.Marked.{slotsOf, linear, enabled, blamed, selected, marked}
+use Rattle.examples.specs.Accesses.{row, rowAfter, kernelPage, openPage, rows, based, segments, tooWide, refusals}
+use Rattle.examples.specs.Calls.{short, caused, calls}
+use Rattle.examples.specs.Walks.{tables, good, shared, globalBroken, walks}
+use Rattle.examples.specs.Examples.{examples}
+
+pub all-hold : allComputed examples ≡ allOwed examples
+unfolding all count lowest vpnOf offsetOf location vpn15Of slotOf setOf unpack join lowBits pack emptyFields emptyEntry toWords
+    fromWords field put widths fitsAt registersFit zeroRegisters refuseUnless byRefusal drawFits present reserved number stretchSize
+    indexIn inside broken leafAt stopAt indexBelow descend walkTree globalFirst walkPage bufferFits slotAt withSlot emptyFirst
+    startBuffer validOrInvExc vpn15Matches idMatchesOrGlobal matchesPage hit fieldsAt setHits hitCount hitSet segmentOf inLinearSegment
+    nibble segmentBase linearAddress invExc accExc weExc writeError accessViolation invalidPage exceptionValue pageAddress isSet
+    noException withCause exceptionAddress interrupts exceptionAnswer hitValue onHit byHitCount foundSet pageMapped translate
+    rawRefusal rawReply startRefusal startReply startedBuffer isRegister writeRefusal writtenEntry writtenBuffer writeReply
+    bufferAfterWrite readRefusal readReply Values allComputed allOwed registersWith started user supervisor answered entryWith oneEntry
+    twoEntries slotsOf linear enabled blamed selected marked row rowAfter kernelPage openPage rows based segments tooWide refusals
+    short caused calls tables good shared globalBroken walks examples
+all-hold = refl

@@ -1,0 +1,7 @@
+pub mod Claims
+pub mod Setting
+pub mod Marked
+pub mod Accesses
+pub mod Calls
+pub mod Walks
+pub mod Examples
