@@ -1,0 +1,311 @@
+// Makes the unit's calls one after another, as standard input asks, and writes each answer to standard output: what the
+// comparison with the second program drives. tests/PROTOCOL.md gives the bytes of requests and answers.
+ghost use mathlib.Core.Path.{_≡_};
+ghost use Prim.Native.Nat.{_*_, _≤_};
+ghost use lib.ListN.{length};
+use access::Physical;
+use mmu::RawReply;
+use page_table::Walk;
+use registers::Outcome;
+use registers::Registers;
+use registers::Reply;
+
+// A call's kind, its four arguments, and how long its runs are.
+struct Request {
+    kind: u32,
+    first: u32,
+    second: u32,
+    third: u32,
+    fourth: u32,
+    slots: u32,
+    words: u32,
+    registers: Registers,
+}
+
+// The four words of an answer, and the registers.
+struct Answer {
+    first: u32,
+    second: u32,
+    third: u32,
+    fourth: u32,
+    registers: Registers,
+}
+
+// In place of a number of table words: the input has ended.
+const END: usize = 16385;
+
+fn answered(first: u32, second: u32, third: u32, fourth: u32, registers: Registers) -> Answer {
+    Answer {
+        first,
+        second,
+        third,
+        fourth,
+        registers,
+    }
+}
+
+fn reply_answer(reply: Reply) -> Answer {
+    let outcome = reply.outcome;
+    let registers = reply.registers;
+    match outcome {
+        Outcome::At(address) => answered(0, address, reply.loads, 0, registers),
+        Outcome::Fault(value) => answered(1, value, reply.loads, 0, registers),
+        Outcome::Done(value) => answered(2, value, reply.loads, 0, registers),
+        Outcome::Refused(number) => answered(3, number, reply.loads, 0, registers),
+    }
+}
+
+fn read_answer(reply: Reply) -> Answer {
+    let outcome = reply.outcome;
+    let registers = reply.registers;
+    match outcome {
+        Outcome::At(_) => answered(2, 0, 0, 0, registers),
+        Outcome::Fault(_) => answered(2, 0, 0, 0, registers),
+        Outcome::Done(value) => answered(0, value, 0, 0, registers),
+        Outcome::Refused(number) => answered(1, number, 0, 0, registers),
+    }
+}
+
+fn bit(flag: bool) -> u32
+    ensures { λ n. ⌜ n ≤ 1 ⌝ }
+{
+    if flag { 1 } else { 0 }
+}
+
+fn raw_answer(reply: RawReply) -> Answer {
+    match reply {
+        RawReply::Refused(number, registers) => answered(2, number, 0, 0, registers),
+        RawReply::Answered(t) => {
+            let flags = bit(t.interrupt) + 2 * bit(t.exception);
+            let physical = t.physical;
+            let registers = t.registers;
+            match physical {
+                Physical::Address(address) => answered(1, address, flags, t.value, registers),
+                Physical::None => answered(0, 0, flags, t.value, registers),
+            }
+        }
+    }
+}
+
+fn walk_answer(found: Walk, registers: Registers) -> Answer {
+    match found {
+        Walk::Leaf(leaf) => answered(0, leaf.word, leaf.index, leaf.global as u32, registers),
+        Walk::Absent(stop) => answered(1, 0, stop.level, stop.global as u32, registers),
+        Walk::Broken(stop) => answered(2, 0, stop.level, stop.global as u32, registers),
+    }
+}
+
+fn walk(tables: &[u32], id: u32, vpn: u32, registers: Registers) -> Answer {
+    if 63 < id {
+        return answered(3, 0, 0, 0, registers);
+    }
+    if 524287 < vpn {
+        return answered(3, 0, 0, 0, registers);
+    }
+    if tables.len() < 64 {
+        return answered(3, 0, 0, 0, registers);
+    }
+    let found = page_table::walk_page(tables, id, vpn);
+    walk_answer(found, registers)
+}
+
+// Makes the call that a request names.
+fn call(q: Request, buffer: &mut [u64], tables: &[u32]) -> Answer {
+    let r = q.registers;
+    if q.kind == 0 {
+        return reply_answer(control::start(buffer));
+    }
+    if q.kind == 1 {
+        return raw_answer(mmu::raw_access(
+            r,
+            buffer,
+            q.first,
+            q.second != 0,
+            q.third != 0,
+            q.fourth,
+        ));
+    }
+    if q.kind == 2 {
+        return reply_answer(control::write_register(r, buffer, q.first, q.second));
+    }
+    if q.kind == 3 {
+        return read_answer(control::read_register(r, q.first));
+    }
+    walk(tables, q.first, q.second, r)
+}
+
+// Fills the run from standard input, by way of the bytes; false where the input ends before.
+fn read_numbers(bytes: &mut [u8], numbers: &mut [u64]) -> bool
+    requires { ⌜ length (now bytes) ≡ 8 * length (now numbers) ⌝ }
+{
+    let n = bytes.len();
+    if io::read_full(0, bytes) != n {
+        return false;
+    }
+    wire::decode64(bytes, numbers);
+    true
+}
+
+fn read_words(bytes: &mut [u8], words: &mut [u32]) -> bool
+    requires { ⌜ length (now bytes) ≡ 4 * length (now words) ⌝ }
+{
+    let n = bytes.len();
+    if io::read_full(0, bytes) != n {
+        return false;
+    }
+    wire::decode32(bytes, words);
+    true
+}
+
+fn write_answer(a: Answer, numbers: &[u64], bytes: &mut [u8])
+    requires { ⌜ length (now bytes) ≡ 8 * length (now numbers) ⌝ }
+{
+    let r = a.registers;
+    let w = registers::to_words(r);
+    let words = [
+        a.first,
+        a.second,
+        a.third,
+        a.fourth,
+        w[0],
+        w[1],
+        w[2],
+        w[3],
+        w[4],
+        w[5],
+        w[6],
+        w[7],
+        w[8],
+        w[9],
+        w[10],
+    ];
+    let mut head = [0u8; 60];
+    wire::encode32(&words, &mut head);
+    io::write_all(1, &head);
+    wire::encode64(numbers, bytes);
+    io::write_all(1, bytes);
+}
+
+fn requested(w: [u32; 19]) -> Request {
+    let registers = registers::from_words([
+        w[8],
+        w[9],
+        w[10],
+        w[11],
+        w[12],
+        w[13],
+        w[14],
+        w[15],
+        w[16],
+        w[17],
+        w[18],
+    ]);
+    Request {
+        kind: w[0],
+        first: w[1],
+        second: w[2],
+        third: w[3],
+        fourth: w[4],
+        slots: w[5],
+        words: w[6],
+        registers,
+    }
+}
+
+// Reads so many table words, or none; answers how many are held then.
+fn read_tables(bytes: &mut [u8], tables: &mut [u32], count: usize, held: usize) -> usize
+    requires { ⌜ (length (now bytes) ≡ 65536) × (length (now tables) ≡ 16384) × (count ≤ 16384) ⌝ }
+{
+    if count == 0 {
+        return held;
+    }
+    let end = 4 * count;
+    if read_words(&mut bytes[..end], &mut tables[..count]) {
+        return count;
+    }
+    END
+}
+
+// Reads a request's runs, makes its call, and writes the answer; answers how many table words are held then.
+fn serve(
+    q: Request,
+    bytes: &mut [u8],
+    buffer: &mut [u64],
+    table_bytes: &mut [u8],
+    tables: &mut [u32],
+    held: usize,
+) -> usize
+    requires { ⌜ (length (now bytes) ≡ 8 * length (now buffer)) × (length (now «table_bytes») ≡ 65536) × (length (now tables) ≡ 16384) ⌝ }
+{
+    let words = q.words as usize;
+    if 16384 < words {
+        return END;
+    }
+    if !read_numbers(bytes, buffer) {
+        return END;
+    }
+    let now = read_tables(table_bytes, tables, words, held);
+    if 16384 < now {
+        return END;
+    }
+    let a = call(q, buffer, &tables[..now]);
+    write_answer(a, buffer, bytes);
+    now
+}
+
+// Reads the head of a request and serves it; answers how many table words are held then.
+fn step(
+    bytes: &mut [u8],
+    buffer: &mut [u64],
+    table_bytes: &mut [u8],
+    tables: &mut [u32],
+    held: usize,
+) -> usize
+    requires { ⌜ (length (now bytes) ≡ 640) × (length (now buffer) ≡ 80) × (length (now «table_bytes») ≡ 65536) × (length (now tables) ≡ 16384) ⌝ }
+{
+    let mut head = [0u8; 76];
+    let mut words = [0u32; 19];
+    if !read_words(&mut head, &mut words) {
+        return END;
+    }
+    let q = requested(words);
+    if 4 < q.kind {
+        return END;
+    }
+    let slots = q.slots as usize;
+    if 80 < slots {
+        return END;
+    }
+    let end = 8 * slots;
+    serve(
+        q,
+        &mut bytes[..end],
+        &mut buffer[..slots],
+        table_bytes,
+        tables,
+        held,
+    )
+}
+
+// A proved loop has to end, and nothing says that the input does: so the requests are counted.
+fn run(bytes: &mut [u8], buffer: &mut [u64], table_bytes: &mut [u8], tables: &mut [u32])
+    requires { ⌜ (length (now bytes) ≡ 640) × (length (now buffer) ≡ 80) × (length (now «table_bytes») ≡ 65536) × (length (now tables) ≡ 16384) ⌝ }
+{
+    let mut held: usize = 0;
+    let mut left = u64::MAX;
+    while 0 < left {
+        left -= 1;
+        held = step(bytes, buffer, table_bytes, tables, held);
+        if 16384 < held {
+            return;
+        }
+    }
+}
+
+fn main() {
+    let mut bytes = [0u8; 640];
+    let mut buffer = [0u64; 80];
+    let mut table_bytes = [0u8; 65536];
+    let mut tables = [0u32; 16384];
+    run(&mut bytes, &mut buffer, &mut table_bytes, &mut tables);
+}
