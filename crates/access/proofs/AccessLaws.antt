@@ -19,7 +19,8 @@ use Rattle.slots.specs.Buffer.{Buffer, slotAt}
 use Rattle.tlb.specs.Search.{fieldsAt, hitCount, Searched}
 use Rattle.access.specs.Segments.{inLinearSegment, linearAddress}
 use Rattle.access.specs.Exceptions.{invExc, MISS}
-use Rattle.access.specs.Translation.{pageAddress, isSet, noException, withCause, exceptionAddress, interrupts, exceptionAnswer, hitValue, onHit, byHitCount, foundSet, pageMapped, translate}
+use Rattle.access.specs.Translation.{pageAddress, isSet, noException, withCause, exceptionAddress, interrupts, exceptionAnswer}
+use Rattle.access.specs.Translation.{hitValue, onHit, byHitCount, foundSet, pageMapped, translate}
 use Rattle.access.specs.declared.Physical.{Physical}
 use Rattle.access.specs.declared.Physical.the-variants.{Address, None}
 use Rattle.access.specs.declared.Translation.{Translation}
@@ -74,7 +75,13 @@ module _ (r : Registers) (a : Access) (tested : Physical) where
 
 pub answer-is : (r : Registers) (a : Access) (slot value : ℕ) (tested physical : Physical) (after : Registers)
     → physical ≡ exceptionAddress r a tested → after ≡ withCause r a slot value
-    → record { physical = physical; interrupt = not (eqb (r .enable) 0) && eqb (r .test) 0; exception = true; value = value; registers = after }
+    → record {
+      physical = physical;
+      interrupt = not (eqb (r .enable) 0) && eqb (r .test) 0;
+      exception = true;
+      value = value;
+      registers = after;
+    }
     ≡ exceptionAnswer r a slot value tested
 unfolding exceptionAnswer interrupts isSet
 answer-is r a slot value tested physical after p q = λ j. record {
@@ -120,7 +127,12 @@ module _ (r : Registers) (b : Buffer) (a : Access) (hits set : ℕ) (x : Transla
 
   pub mapped-many : (hits ≡ 0 → ⊥) → (hits ≡ 1 → ⊥) → x ≡ exceptionAnswer r a (r .select) 0 None → x ≡ pageMapped r b a
   unfolding pageMapped byHitCount
-  mapped-many z o q = q ∙ many (hitCount b (invExc (r .ctrl)) (r .context) (vpnOf (a .address))) (λ y. z (s .number-is ∙ y)) (λ y. o (s .number-is ∙ y))
+  mapped-many z o q =
+      q
+      ∙ many
+      (hitCount b (invExc (r .ctrl)) (r .context) (vpnOf (a .address)))
+      (λ y. z (s .number-is ∙ y))
+      (λ y. o (s .number-is ∙ y))
     where
       many : (n : ℕ) → (n ≡ 0 → ⊥) → (n ≡ 1 → ⊥)
           → exceptionAnswer r a (r .select) 0 None ≡ byHitCount n r a (foundSet r b a) (fieldsAt b (vpnOf (a .address)) (foundSet r b a))

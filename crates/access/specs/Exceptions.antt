@@ -28,7 +28,8 @@ invalidPage ctrl valid = not valid && invExc ctrl
 
 -- exception value: write error 1, access violation 2, invalid page 4, added up
 unfoldable pub exceptionValue : (ctrl : ℕ) → Access → (valid kernel we : Bool) → ℕ
-exceptionValue ctrl a valid kernel we = bit (writeError ctrl a we) + 2 * bit (accessViolation ctrl a kernel) + 4 * bit (invalidPage ctrl valid)
+exceptionValue ctrl a valid kernel we =
+    bit (writeError ctrl a we) + 2 * bit (accessViolation ctrl a kernel) + 4 * bit (invalidPage ctrl valid)
 
 -- the exception value of a miss
 abbrev pub MISS : ℕ

@@ -36,7 +36,12 @@ write-accepted r b number value h =
     let two = passed (bufferFits b) 2 _ (λ e. omega arith) (one .1) in
     let known = passed (isRegister number) 7 _ (λ e. omega arith) (two .1) in
     let small = passed (fitsAt number value) 7 _ (λ e. omega arith) (known .1) in
-    record { registers-fit = one .0; buffer-fits = two .0; number-lt = number-below number true (sym (known .0)) refl; value-fits = small .0 }
+    record {
+      registers-fit = one .0;
+      buffer-fits = two .0;
+      number-lt = number-below number true (sym (known .0)) refl;
+      value-fits = small .0;
+    }
 
 pub read-accepted : (r : Registers) (number : ℕ) → readRefusal r number ≡ 0 → number < 10
 unfolding readRefusal

@@ -29,7 +29,8 @@ unfolding lowBits
 low-lt f h = omega (arith, bit-le (f .global), bit-le (f .valid), bit-le (f .kernel), bit-le (f .we), h .pfn-fits)
 
 pub low-sum : (f : Entry) → EntryFits f
-    → let n = boolByte (f .global) * 4194304 + boolByte (f .valid) * 2097152 + boolByte (f .kernel) * 1048576 + boolByte (f .we) * 524288 + f .pfn in
+    → let flags = boolByte (f .global) * 4194304 + boolByte (f .valid) * 2097152 + boolByte (f .kernel) * 1048576 in
+    let n = flags + boolByte (f .we) * 524288 + f .pfn in
     (n ≡ lowBits f) × (n < 2 ^ 23)
 unfolding lowBits
 low-sum f h =

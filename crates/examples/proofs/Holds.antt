@@ -15,7 +15,8 @@ use Rattle.tlb.specs.Hit.{validOrInvExc, vpn15Matches, idMatchesOrGlobal, match
 use Rattle.tlb.specs.Search.{fieldsAt, setHits, hitCount, hitSet}
 use Rattle.access.specs.Segments.{segmentOf, inLinearSegment, nibble, segmentBase, linearAddress}
 use Rattle.access.specs.Exceptions.{invExc, accExc, weExc, writeError, accessViolation, invalidPage, exceptionValue}
-use Rattle.access.specs.Translation.{pageAddress, isSet, noException, withCause, exceptionAddress, interrupts, exceptionAnswer, hitValue, onHit, byHitCount, foundSet, pageMapped, translate}
+use Rattle.access.specs.Translation.{pageAddress, isSet, noException, withCause, exceptionAddress, interrupts, exceptionAnswer, hitValue}
+use Rattle.access.specs.Translation.{onHit, byHitCount, foundSet, pageMapped, translate}
 use Rattle.mmu.specs.RawAccess.{rawRefusal, rawReply}
 use Rattle.control.specs.Starting.{startRefusal, startReply, startedBuffer}
 use Rattle.control.specs.Writing.{isRegister, writeRefusal, writtenEntry, writtenBuffer, writeReply, bufferAfterWrite}

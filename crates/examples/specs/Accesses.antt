@@ -11,7 +11,8 @@ use Rattle.access.specs.declared.Physical.the-variants.{Address, None}
 use Rattle.mmu.specs.RawAccess.{rawReply}
 use Rattle.mmu.specs.declared.RawReply.the-variants.{Refused}
 use Rattle.examples.specs.Claims.{Example, _gives_}
-use Rattle.examples.specs.Setting.{reg, registersWith, KSEG, CTRL, ENABLE, KBASE_LO, KBASE_HI, CONTEXT, TEST, started, user, supervisor, answered, oneEntry, twoEntries, pageByte, frameByte, pageHi}
+use Rattle.examples.specs.Setting.{reg, registersWith, KSEG, CTRL, ENABLE, KBASE_LO, KBASE_HI, CONTEXT, TEST, started, user}
+use Rattle.examples.specs.Setting.{supervisor, answered, oneEntry, twoEntries, pageByte, frameByte, pageHi}
 
 -- enable and test as given, acc_exc on, context 5, SELECT 7, and an old cause
 unfoldable pub row : (enable test : ℕ) → Registers

@@ -35,7 +35,8 @@ calls =
     ∷ (writeReply caused started TLB_LO 0x7fffff
     gives done (registersWith (reg TLB_HI (7 * 64 + 3) ∷ reg TLB_LO 0x7fffff ∷ reg CAUSE 17 ∷ reg SELECT 63 ∷ [])) 0)
     -- context 63 may be written, and 64 is too large; there is no register 10
-    ∷ (writeReply caused started CONTEXT 63 gives done (registersWith (reg CONTEXT 63 ∷ reg TLB_HI (7 * 64 + 3) ∷ reg CAUSE 17 ∷ reg SELECT 63 ∷ [])) 0)
+    ∷ (writeReply caused started CONTEXT 63
+    gives done (registersWith (reg CONTEXT 63 ∷ reg TLB_HI (7 * 64 + 3) ∷ reg CAUSE 17 ∷ reg SELECT 63 ∷ [])) 0)
     ∷ (writeReply caused started CONTEXT 64 gives refused caused 7)
     ∷ (writeReply caused started CAUSE 0 gives refused caused 7)
     ∷ (writeReply caused short CAUSE 0 gives refused caused 2)

@@ -10,7 +10,8 @@ use Rattle.access.specs.declared.Physical.the-variants.{Address, None}
 use Rattle.control.specs.Writing.{bufferAfterWrite, writeReply}
 use Rattle.mmu.specs.RawAccess.{rawReply}
 use Rattle.examples.specs.Claims.{Example, _gives_}
-use Rattle.examples.specs.Setting.{reg, registersWith, KSEG, CTRL, ENABLE, KBASE_HI, CONTEXT, started, user, supervisor, answered, oneEntry, twoEntries, pageByte, frameByte, pageHi}
+use Rattle.examples.specs.Setting.{reg, registersWith, KSEG, CTRL, ENABLE, KBASE_HI, CONTEXT, started, user, supervisor, answered}
+use Rattle.examples.specs.Setting.{oneEntry, twoEntries, pageByte, frameByte, pageHi}
 
 unfoldable pub slotsOf : (vpn : ℕ) → List ℕ
 slotsOf vpn = slotOf 0 vpn ∷ slotOf 1 vpn ∷ slotOf 2 vpn ∷ slotOf 3 vpn ∷ []

@@ -37,7 +37,8 @@ pub fn raw_access(
     write: bool,
     draw: u32,
 ) -> RawReply
-    ensures { λ s. ⌜ RawAccessGives r (Buffer.Wide (now (buffer .entry))) (record { address = address; user = user; write = write; draw = draw }) s ⌝ }
+    ensures { λ s. ⌜ RawAccessGives r (Buffer.Wide (now (buffer .entry)))
+        (record { address = address; user = user; write = write; draw = draw }) s ⌝ }
 {
     let a = Access {
         address,

@@ -261,7 +261,8 @@ fn step(
     tables: &mut [u32],
     held: usize,
 ) -> usize
-    requires { ⌜ (length (now bytes) ≡ 640) × (length (now buffer) ≡ 80) × (length (now «table_bytes») ≡ 65536) × (length (now tables) ≡ 16384) ⌝ }
+    requires { ⌜ (length (now bytes) ≡ 640) × (length (now buffer) ≡ 80)
+        × (length (now «table_bytes») ≡ 65536) × (length (now tables) ≡ 16384) ⌝ }
 {
     let mut head = [0u8; 76];
     let mut words = [0u32; 19];
@@ -289,7 +290,8 @@ fn step(
 
 // A proved loop has to end, and nothing says that the input does: so the requests are counted.
 fn run(bytes: &mut [u8], buffer: &mut [u64], table_bytes: &mut [u8], tables: &mut [u32])
-    requires { ⌜ (length (now bytes) ≡ 640) × (length (now buffer) ≡ 80) × (length (now «table_bytes») ≡ 65536) × (length (now tables) ≡ 16384) ⌝ }
+    requires { ⌜ (length (now bytes) ≡ 640) × (length (now buffer) ≡ 80)
+        × (length (now «table_bytes») ≡ 65536) × (length (now tables) ≡ 16384) ⌝ }
 {
     let mut held: usize = 0;
     let mut left = u64::MAX;

@@ -92,7 +92,8 @@ module _ (p : ℕ → Bool) where
       Goal x = (p x ≡ true) × (x < suc n)
 
       last-true : None n → p n ≡ true
-      last-true all = ⊎-elim (λ (e : s .0 ≡ n). subst (λ (j : ℕ). p j ≡ true) e (s .2)) (λ (l : s .0 < n). absurd (clash (s .2) (all (s .0) l))) (split (s .1))
+      last-true all = ⊎-elim (λ (e : s .0 ≡ n). subst (λ (j : ℕ). p j ≡ true) e (s .2))
+          (λ (l : s .0 < n). absurd (clash (s .2) (all (s .0) l))) (split (s .1))
 
       none : None n → Goal (lowest p n (cond (p n) n d))
       none all =
@@ -103,7 +104,8 @@ module _ (p : ℕ → Bool) where
       some h = (h .0, omega (arith, h .1))
 
   pub lowest-lt : (n d : ℕ) → d < n → lowest p n d < n
-  lowest-lt n d l = ⊎-elim (λ (all : None n). subst (λ (x : ℕ). x < n) (sym (lowest-none n d all)) l) (λ (s : Some n). (lowest-true n d s) .1) (none-or-some n)
+  lowest-lt n d l = ⊎-elim (λ (all : None n). subst (λ (x : ℕ). x < n) (sym (lowest-none n d all)) l)
+      (λ (s : Some n). (lowest-true n d s) .1) (none-or-some n)
 
   pub count-le-one : (n : ℕ) → ((j k : ℕ) → j < n → k < n → p j ≡ true → p k ≡ true → j ≡ k) → count p n ≤ 1
   count-le-one n u =

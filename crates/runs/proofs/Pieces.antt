@@ -23,7 +23,8 @@ tab-at f k (suc n) (suc i) h = rw (add-suc, ← suc-add) (tab-at f (suc k) n i (
 -- a loop that lends the run's stretches one after the other: p is what the stretches passed have become, d the run at first
 pub put-front : (p d part : List ℕ) (a n : ℕ) → length p ≡ a → putMid a n (p ++ drop a d) part ≡ (p ++ part) ++ drop (a + n) d
 put-front p d part a n e =
-    ap₂ _++_ (take-at p (drop a d) a e) (ap (λ (l : List ℕ). part ++ drop n l) (drop-at p (drop a d) a e) ∙ ap (λ (l : List ℕ). part ++ l) (drop-drop n a d))
+    ap₂ _++_ (take-at p (drop a d) a e) (ap (λ (l : List ℕ). part ++ drop n l) (drop-at p (drop a d) a e)
+    ∙ ap (λ (l : List ℕ). part ++ l) (drop-drop n a d))
     ∙ sym (append-assoc p part (drop (a + n) d))
 
 -- such a stretch is as long as its bounds say
@@ -34,18 +35,22 @@ mid-front s a n h = simp (length-take, length-drop) (omega arith)
 module _ (f : ℕ → List ℕ) (w : ℕ) (wide : (x : ℕ) → length (f x) ≡ w) where
   pub flat-length : (xs : List ℕ) → length (flat f xs) ≡ length xs * w
   flat-length [] = sym (zero-mul w)
-  flat-length (x ∷ xs) = length-append (f x) (flat f xs) ∙ ap₂ _+_ (wide x) (flat-length xs) ∙ sym (suc-mul (length xs) w ∙ add-comm (length xs * w) w)
+  flat-length (x ∷ xs) = length-append (f x) (flat f xs) ∙ ap₂ _+_ (wide x) (flat-length xs)
+      ∙ sym (suc-mul (length xs) w ∙ add-comm (length xs * w) w)
 
   flat-suc : (i : ℕ) (s : List ℕ) → i < length s → flat f (take (suc i) s) ≡ flat f (take i s) ++ f (getD s i 0)
   flat-suc i [] h = absurd (not-suc-le-zero h)
   flat-suc zero (x ∷ s) h = append-nil (f x)
-  flat-suc (suc i) (x ∷ s) h = ap (λ (t : List ℕ). f x ++ t) (flat-suc i s (le-of-suc-le-suc h)) ∙ sym (append-assoc (f x) (flat f (take i s)) (f (getD s i 0)))
+  flat-suc (suc i) (x ∷ s) h = ap (λ (t : List ℕ). f x ++ t) (flat-suc i s (le-of-suc-le-suc h))
+      ∙ sym (append-assoc (f x) (flat f (take i s)) (f (getD s i 0)))
 
   -- a turn: part is what the piece's stretch has become; at = i * w in the code's own words
-  pub flat-more : (i at at′ k : ℕ) (s d b part : List ℕ) → at ≡ i * w → at′ ≡ at + w → k ≡ w → at + w ≤ length b → i < length s → b ≡ flat f (take i s) ++ drop at d → part ≡ f (getD s i 0)
+  pub flat-more : (i at at′ k : ℕ) (s d b part : List ℕ) → at ≡ i * w → at′ ≡ at + w → k ≡ w → at + w ≤ length b → i < length s
+      → b ≡ flat f (take i s) ++ drop at d → part ≡ f (getD s i 0)
       → (length (putMid at k b part) ≡ length b) × (putMid at k b part ≡ flat f (take (i + 1) s) ++ drop at′ d)
   flat-more i at at′ k s d b part ea en ek hb h eb ep =
-      let front : length (flat f (take i s)) ≡ at = flat-length (take i s) ∙ ap (λ (n : ℕ). n * w) (length-take-le i s (omega arith)) ∙ sym ea in (
+      let front : length (flat f (take i s)) ≡ at = flat-length (take i s) ∙ ap (λ (n : ℕ). n * w) (length-take-le i s (omega arith))
+      ∙ sym ea in (
         same-len-mid at k b part (ap length ep ∙ wide _ ∙ sym (mid-front b at k (rw ek hb) ∙ ek)),
         rw (eb, ek, put-front (flat f (take i s)) d part at w front, ep, en, add-one, flat-suc i s h) refl,
       )
@@ -54,7 +59,8 @@ module _ (f : ℕ → List ℕ) (w : ℕ) (wide : (x : ℕ) → length (f x) ≡
   flat-all i at s d b e hd eb = eb ∙ rw (e, drop-of-length-le d hd, append-nil (flat f (take (length s) s)), take-length)
 
 -- what stands at an index of the pieces
-pub flat-at : (f : ℕ → List ℕ) (w : ℕ) → ((x : ℕ) → length (f x) ≡ w) → (i j : ℕ) (xs : List ℕ) → i < length xs → j < w → getD (flat f xs) (i * w + j) 0 ≡ getD (f (getD xs i 0)) j 0
+pub flat-at : (f : ℕ → List ℕ) (w : ℕ) → ((x : ℕ) → length (f x) ≡ w) → (i j : ℕ) (xs : List ℕ) → i < length xs → j < w
+    → getD (flat f xs) (i * w + j) 0 ≡ getD (f (getD xs i 0)) j 0
 flat-at f w wide i j [] h k = absurd (not-suc-le-zero h)
 flat-at f w wide zero j (x ∷ xs) h k = rw (zero-mul, zero-add) (List·getD-append (f x) (flat f xs) 0 j (rw (wide x) k))
 flat-at f w wide (suc i) j (x ∷ xs) h k =

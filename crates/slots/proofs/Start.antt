@@ -7,7 +7,8 @@ use mathlib.Core.Logic.{⊎-elim}
 use native.Mathlib.Nat.{add-suc, add-zero, mod-eq-of-lt, not-suc-le-zero, eq-or-lt-of-le, le-of-suc-le-suc, ne-of-lt}
 use native.Mathlib.Numerals.{add-one}
 use native.Mathlib.Omega.{arith}
-use lib.ListN.{length, set, take, drop, replicate, length-set, length-append, length-replicate, replicate-append-replicate, take-append-drop}
+use lib.ListN.{length, set, take, drop, replicate, length-set, length-append, length-replicate, replicate-append-replicate}
+use lib.ListN.{take-append-drop}
 use lib.Seq.{take-suc-set, take-all, set-at, drop-cons, drop-drop, length-take-le}
 use borrow.Rule.Slice.PartMut.{putMid, midOf, mid-len, same-len-mid}
 use Rattle.entry.specs.Address.{setOf}
@@ -75,11 +76,17 @@ first-of-set numbers b n (suc k) l m e q =
     rw (add-suc (16 * n) k)
     (ap (λ (x : Buffer). withSlot x (16 * n + k) (emptyEntry (setOf (16 * n + k)))) (first-of-set numbers b n k l (omega arith) e q) ∙ next)
   where
-    next : withSlot (Wide (take (16 * n) numbers ++ (replicate k (emptyEntry n) ++ drop (16 * n + k) numbers))) (16 * n + k) (emptyEntry (setOf (16 * n + k)))
+    next : withSlot (Wide (take (16 * n) numbers ++ (replicate k (emptyEntry n) ++ drop (16 * n + k) numbers))) (16 * n + k)
+        (emptyEntry (setOf (16 * n + k)))
         ≡ Wide (take (16 * n) numbers ++ (emptyEntry n ∷ (replicate k (emptyEntry n) ++ drop (suc (16 * n + k)) numbers)))
     next =
-        rw (own-set n k (omega arith), stored (take (16 * n) numbers ++ (replicate k (emptyEntry n) ++ drop (16 * n + k) numbers)) (16 * n + k) n l)
-        (ap Wide (set-next (take (16 * n) numbers) numbers k (emptyEntry n) (16 * n + k) (rw (length-take-le (16 * n) numbers (omega arith)) refl) (omega arith)))
+        rw (
+          own-set n k (omega arith),
+          stored (take (16 * n) numbers ++ (replicate k (emptyEntry n) ++ drop (16 * n + k) numbers))
+              (16 * n + k) n l,
+        )
+        (ap Wide (set-next (take (16 * n) numbers) numbers k (emptyEntry n) (16 * n + k)
+        (rw (length-take-le (16 * n) numbers (omega arith)) refl) (omega arith)))
 
 pub record Sets (b : Buffer) (numbers : List ℕ) (n : ℕ) : Type 0 where
   pub same-length : length numbers ≡ 64
@@ -132,7 +139,8 @@ first-at (suc n) slot b f m l = ⊎-elim last (λ k. earlier k (first-at n slot 
   where
     last : slot ≡ n → slotAt (withSlot (emptyFirst n b) n (emptyEntry (n / 16))) slot ≡ emptyEntry (slot / 16)
     last e =
-        rw e (at-same (emptyFirst n b) n (emptyEntry (n / 16)) (first-fits n b ∙ f) (omega arith) ∙ mod-eq-of-lt (empty-lt (n / 16) (omega arith)))
+        rw e (at-same (emptyFirst n b) n (emptyEntry (n / 16)) (first-fits n b ∙ f) (omega arith)
+        ∙ mod-eq-of-lt (empty-lt (n / 16) (omega arith)))
 
     earlier : slot < n → slotAt (emptyFirst n b) slot ≡ emptyEntry (slot / 16)
         → slotAt (withSlot (emptyFirst n b) n (emptyEntry (n / 16))) slot ≡ emptyEntry (slot / 16)

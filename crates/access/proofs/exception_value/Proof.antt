@@ -26,7 +26,16 @@ add-result-2 : tie.Need-add-result-2
 add-result-2 c = search needs
 
 returns : tie.Need-returns
-returns c = (value-sum (c .before .before .before .before .before .before .before .before .args .ctrl) (c .before .before .before .before .before .before .before .before .args .a) (c .before .before .before .before .before .before .before .before .args .f .valid) (c .before .before .before .before .before .before .before .before .args .f .kernel) (c .before .before .before .before .before .before .before .before .args .f .we) _ _ _ (c .before .before .before .before .before .bit .ensures .0) (c .before .before .bit2 .ensures .0) (c .bit3 .ensures .0), omega arith)
+returns c = (
+  value-sum (c .before .before .before .before .before .before .before .before .args .ctrl)
+      (c .before .before .before .before .before .before .before .before .args .a)
+      (c .before .before .before .before .before .before .before .before .args .f .valid)
+      (c .before .before .before .before .before .before .before .before .args .f .kernel)
+      (c .before .before .before .before .before .before .before .before .args .f .we) _ _ _
+      (c .before .before .before .before .before .bit .ensures .0) (c .before .before .bit2 .ensures .0)
+      (c .bit3 .ensures .0),
+  omega arith,
+)
 
 pub exception-value-spec : {M : Type 1} → statement M
 exception-value-spec =

@@ -18,21 +18,24 @@ exception-answer-requires c κs = search needs
 
 returns : tie.Need-returns
 unfolding hitValue
-returns c = hit-exception _ _ _ _ _ _ (c .before .before .before .before .exception-value .ensures .0) _ (c .before .if1 .taken) (page-sum _ _) (c .exception-answer .ensures)
+returns c = hit-exception _ _ _ _ _ _ (c .before .before .before .before .exception-value .ensures .0) _ (c .before .if1 .taken)
+    (page-sum _ _) (c .exception-answer .ensures)
 
 no-exception-requires : tie.Need-no-exception-requires
 no-exception-requires c κs = search needs
 
 returns-2 : tie.Need-returns-2
 unfolding hitValue
-returns-2 c = hit-off _ _ _ _ _ _ (c .before .before .before .before .before .before .exception-value .ensures .0) (c .before .before .before .if1 .left) (c .before .if2 .taken) (c .no-exception .ensures)
+returns-2 c = hit-off _ _ _ _ _ _ (c .before .before .before .before .before .before .exception-value .ensures .0)
+    (c .before .before .before .if1 .left) (c .before .if2 .taken) (c .no-exception .ensures)
 
 no-exception-requires-2 : tie.Need-no-exception-requires-2
 no-exception-requires-2 c κs = search needs
 
 returns-3 : tie.Need-returns-3
 unfolding hitValue
-returns-3 c = hit-address _ _ _ _ _ _ (c .before .before .before .before .before .before .exception-value .ensures .0) _ (c .before .before .before .if1 .left) (c .before .if2 .left) (page-sum _ _) (c .no-exception2 .ensures)
+returns-3 c = hit-address _ _ _ _ _ _ (c .before .before .before .before .before .before .exception-value .ensures .0) _
+    (c .before .before .before .if1 .left) (c .before .if2 .left) (page-sum _ _) (c .no-exception2 .ensures)
 
 pub on-hit-spec : {M : Type 1} → statement M
 on-hit-spec =

@@ -22,30 +22,44 @@ exception-answer-requires c κs = (context-lt _ (c .before .before .before .befo
 
 returns : tie.Need-returns
 unfolding vpnOf invExc
-returns c = mapped-miss _ _ _ _ _ _ (c .before .before .before .search .ensures) _ (c .before .before .if1 .taken) (c .before .slot-of .ensures) (c .exception-answer .ensures)
+returns c = mapped-miss _ _ _ _ _ _ (c .before .before .before .search .ensures) _ (c .before .before .if1 .taken)
+    (c .before .slot-of .ensures) (c .exception-answer .ensures)
 
 slot-of-requires-2 : tie.Need-slot-of-requires-2
-slot-of-requires-2 c κs = searched-lt (c .before .before .search .ensures) (draw-lt _ (c .before .before .before .before .before .before .pre .draw-fits))
+slot-of-requires-2 c κs = searched-lt (c .before .before .search .ensures)
+    (draw-lt _ (c .before .before .before .before .before .before .pre .draw-fits))
 
 slot-at-requires : tie.Need-slot-at-requires
-slot-at-requires c κs = (c .before .before .before .before .before .before .before .pre .buffer-fits, subst (λ (n : ℕ). n < 64) (sym (c .slot-of2 .ensures)) (slot-lt _ _ (searched-lt (c .before .before .before .search .ensures) (draw-lt _ (c .before .before .before .before .before .before .before .pre .draw-fits)))))
+slot-at-requires c κs = (
+  c .before .before .before .before .before .before .before .pre .buffer-fits,
+  subst (λ (n : ℕ). n < 64) (sym (c .slot-of2 .ensures))
+      (slot-lt _ _ (searched-lt (c .before .before .before .search .ensures)
+      (draw-lt _ (c .before .before .before .before .before .before .before .pre .draw-fits)))),
+)
 
 unpack-requires : tie.Need-unpack-requires
 unpack-requires c κs = search needs
 
 on-hit-requires : tie.Need-on-hit-requires
-on-hit-requires c κs = (context-lt _ (c .before .before .before .before .before .before .before .before .before .pre .registers-fit), subst (λ (f : Entry). f .pfn < 524288) (sym (c .unpack .ensures)) ((unpack-fits _) .pfn-fits))
+on-hit-requires c κs = (
+  context-lt _ (c .before .before .before .before .before .before .before .before .before .pre .registers-fit),
+  subst
+      (λ (f : Entry). f .pfn < 524288) (sym (c .unpack .ensures)) ((unpack-fits _) .pfn-fits),
+)
 
 returns-2 : tie.Need-returns-2
 unfolding vpnOf invExc
-returns-2 c = mapped-hit _ _ _ _ _ _ (c .before .before .before .before .before .before .search .ensures) _ _ _ (c .before .before .before .before .if2 .taken) (c .before .before .before .slot-of2 .ensures) (c .before .before .slot-at .ensures) (c .before .unpack .ensures) (c .on-hit .ensures)
+returns-2 c = mapped-hit _ _ _ _ _ _ (c .before .before .before .before .before .before .search .ensures) _ _ _
+    (c .before .before .before .before .if2 .taken) (c .before .before .before .slot-of2 .ensures) (c .before .before .slot-at .ensures)
+    (c .before .unpack .ensures) (c .on-hit .ensures)
 
 exception-answer-requires-2 : tie.Need-exception-answer-requires-2
 exception-answer-requires-2 c κs = (context-lt _ (c .before .before .before .before .before .before .pre .registers-fit), omega arith)
 
 returns-3 : tie.Need-returns-3
 unfolding vpnOf invExc
-returns-3 c = mapped-many _ _ _ _ _ _ (c .before .before .before .search .ensures) (c .before .before .if1 .left) (c .before .if2 .left) (c .exception-answer2 .ensures)
+returns-3 c = mapped-many _ _ _ _ _ _ (c .before .before .before .search .ensures) (c .before .before .if1 .left) (c .before .if2 .left)
+    (c .exception-answer2 .ensures)
 
 pub page-mapped-spec : {M : Type 1} → statement M
 page-mapped-spec =

@@ -17,11 +17,13 @@ is-register-requires c κs = search needs
 
 returns-2 : tie.Need-returns-2
 unfolding readRefusal
-returns-2 c = refuse-later _ _ _ _ (c .before .before .before .registers-fit .ensures) _ (c .before .before .if1 .left) (refuse-here _ _ _ _ (c .before .is-register .ensures) (c .if2 .taken))
+returns-2 c = refuse-later _ _ _ _ (c .before .before .before .registers-fit .ensures) _ (c .before .before .if1 .left)
+    (refuse-here _ _ _ _ (c .before .is-register .ensures) (c .if2 .taken))
 
 returns-3 : tie.Need-returns-3
 unfolding readRefusal
-returns-3 c = refuse-later _ _ _ _ (c .before .before .before .registers-fit .ensures) _ (c .before .before .if1 .left) (refuse-later _ _ _ _ (c .before .is-register .ensures) _ (c .if2 .left) (refl))
+returns-3 c = refuse-later _ _ _ _ (c .before .before .before .registers-fit .ensures) _ (c .before .before .if1 .left)
+    (refuse-later _ _ _ _ (c .before .is-register .ensures) _ (c .if2 .left) refl)
 
 pub read-refusal-spec : {M : Type 1} → statement M
 read-refusal-spec =

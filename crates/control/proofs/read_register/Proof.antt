@@ -16,7 +16,10 @@ refused-requires c κs = search needs
 
 returns : tie.Need-returns
 unfolding readReply
-returns c = record { reply-is = when-refused _ _ (c .before .before .read-refusal .ensures) _ _ _ (c .before .if1 .taken) (c .refused .ensures ∙ ap (refused _) (c .before .before .read-refusal .ensures)) }
+returns c = record {
+  reply-is = when-refused _ _ (c .before .before .read-refusal .ensures) _ _ _ (c .before .if1 .taken)
+      (c .refused .ensures ∙ ap (refused _) (c .before .before .read-refusal .ensures));
+}
 
 field-requires : tie.Need-field-requires
 field-requires c κs = omega (arith, read-accepted _ _ (sym (c .before .read-refusal .ensures) ∙ c .if1 .left))
@@ -26,7 +29,10 @@ done-requires c κs = search needs
 
 returns-2 : tie.Need-returns-2
 unfolding readReply
-returns-2 c = record { reply-is = when-accepted _ _ (c .before .before .before .read-refusal .ensures) _ _ _ (c .before .before .if1 .left) (c .done .ensures ∙ ap (done _) (c .before .field .ensures)) }
+returns-2 c = record {
+  reply-is = when-accepted _ _ (c .before .before .before .read-refusal .ensures) _ _ _
+      (c .before .before .if1 .left) (c .done .ensures ∙ ap (done _) (c .before .field .ensures));
+}
 
 pub read-register-spec : {M : Type 1} → statement M
 read-register-spec =

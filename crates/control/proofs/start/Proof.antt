@@ -18,7 +18,8 @@ same-length : tie.Need-same-length
 same-length c = search needs
 
 returns : tie.Need-returns
-returns c = start-refused _ _ _ _ (c .before .before .buffer-fits .ensures) (c .before .before .before .before .zero-registers .ensures) (c .before .if1 .taken) (c .refused .ensures)
+returns c = start-refused _ _ _ _ (c .before .before .buffer-fits .ensures) (c .before .before .before .before .zero-registers .ensures)
+    (c .before .if1 .taken) (c .refused .ensures)
 
 empty-slots-requires : tie.Need-empty-slots-requires
 empty-slots-requires c κs = sym (c .before .before .buffer-fits .ensures) ∙ not-false _ (c .before .if1 .left)
@@ -30,7 +31,9 @@ same-length-2 : tie.Need-same-length-2
 same-length-2 c = search needs
 
 returns-2 : tie.Need-returns-2
-returns-2 c = start-done _ _ _ _ (c .before .before .before .before .before .before .buffer-fits .ensures) (c .before .before .before .before .before .before .before .before .zero-registers .ensures) _ (c .before .before .before .before .before .if1 .left) (c .done .ensures) (c .before .before .before .empty-slots .ensures)
+returns-2 c = start-done _ _ _ _ (c .before .before .before .before .before .before .buffer-fits .ensures)
+    (c .before .before .before .before .before .before .before .before .zero-registers .ensures) _
+    (c .before .before .before .before .before .if1 .left) (c .done .ensures) (c .before .before .before .empty-slots .ensures)
 
 pub start-spec : {M : Type 1} → statement M
 start-spec =

@@ -14,7 +14,8 @@ same-length : tie.Need-same-length
 same-length c = search needs
 
 returns : tie.Need-returns
-returns c = stores _ _ _ _ _ _ (c .before .before .before .before .before .if1 .taken) (c .before .before .before .before .join .ensures) (c .before .before .put-slot .ensures)
+returns c = stores _ _ _ _ _ _ (c .before .before .before .before .before .if1 .taken) (c .before .before .before .before .join .ensures)
+    (c .before .before .put-slot .ensures)
 
 returns-2 : tie.Need-returns-2
 returns-2 c = stores-none _ _ _ _ (c .if1 .left)

@@ -19,25 +19,39 @@ buffer-fits-requires c κs = search needs
 
 returns-2 : tie.Need-returns-2
 unfolding writeRefusal
-returns-2 c = refuse-later _ _ _ _ (c .before .before .before .registers-fit .ensures) _ (c .before .before .if1 .left) (refuse-here _ _ _ _ (c .before .buffer-fits .ensures) (c .if2 .taken))
+returns-2 c = refuse-later _ _ _ _ (c .before .before .before .registers-fit .ensures) _ (c .before .before .if1 .left)
+    (refuse-here _ _ _ _ (c .before .buffer-fits .ensures) (c .if2 .taken))
 
 is-register-requires : tie.Need-is-register-requires
 is-register-requires c κs = search needs
 
 returns-3 : tie.Need-returns-3
 unfolding writeRefusal
-returns-3 c = refuse-later _ _ _ _ (c .before .before .before .before .before .registers-fit .ensures) _ (c .before .before .before .before .if1 .left) (refuse-later _ _ _ _ (c .before .before .before .buffer-fits .ensures) _ (c .before .before .if2 .left) (refuse-here _ _ _ _ (c .before .is-register .ensures) (c .if3 .taken)))
+returns-3 c = refuse-later _ _ _ _ (c .before .before .before .before .before .registers-fit .ensures) _
+    (c .before .before .before .before .if1 .left) (refuse-later _ _ _ _ (c .before .before .before .buffer-fits .ensures) _
+    (c .before .before .if2 .left) (refuse-here _ _ _ _ (c .before .is-register .ensures) (c .if3 .taken)))
 
 fits-at-requires : tie.Need-fits-at-requires
-fits-at-requires c κs = let h = number-below (c .before .before .before .before .before .before .before .args .number) _ (c .before .is-register .ensures) (c .if3 .left) in omega arith
+fits-at-requires c κs = let h = number-below (c .before .before .before .before .before .before .before .args .number) _
+    (c .before .is-register .ensures) (c .if3 .left) in omega arith
 
 returns-4 : tie.Need-returns-4
 unfolding writeRefusal
-returns-4 c = refuse-later _ _ _ _ (c .before .before .before .before .before .before .before .registers-fit .ensures) _ (c .before .before .before .before .before .before .if1 .left) (refuse-later _ _ _ _ (c .before .before .before .before .before .buffer-fits .ensures) _ (c .before .before .before .before .if2 .left) (refuse-later _ _ _ _ (c .before .before .before .is-register .ensures) _ (c .before .before .if3 .left) (refuse-here _ _ _ _ (c .before .fits-at .ensures) (c .if4 .taken))))
+returns-4 c = refuse-later _ _ _ _ (c .before .before .before .before .before .before .before .registers-fit .ensures) _
+    (c .before .before .before .before .before .before .if1 .left)
+    (refuse-later _ _ _ _ (c .before .before .before .before .before .buffer-fits .ensures) _
+    (c .before .before .before .before .if2 .left)
+    (refuse-later _ _ _ _ (c .before .before .before .is-register .ensures) _ (c .before .before .if3 .left)
+    (refuse-here _ _ _ _ (c .before .fits-at .ensures) (c .if4 .taken))))
 
 returns-5 : tie.Need-returns-5
 unfolding writeRefusal
-returns-5 c = refuse-later _ _ _ _ (c .before .before .before .before .before .before .before .registers-fit .ensures) _ (c .before .before .before .before .before .before .if1 .left) (refuse-later _ _ _ _ (c .before .before .before .before .before .buffer-fits .ensures) _ (c .before .before .before .before .if2 .left) (refuse-later _ _ _ _ (c .before .before .before .is-register .ensures) _ (c .before .before .if3 .left) (refuse-later _ _ _ _ (c .before .fits-at .ensures) _ (c .if4 .left) (refl))))
+returns-5 c = refuse-later _ _ _ _ (c .before .before .before .before .before .before .before .registers-fit .ensures) _
+    (c .before .before .before .before .before .before .if1 .left)
+    (refuse-later _ _ _ _ (c .before .before .before .before .before .buffer-fits .ensures) _
+    (c .before .before .before .before .if2 .left)
+    (refuse-later _ _ _ _ (c .before .before .before .is-register .ensures) _ (c .before .before .if3 .left)
+    (refuse-later _ _ _ _ (c .before .fits-at .ensures) _ (c .if4 .left) refl)))
 
 pub write-refusal-spec : {M : Type 1} → statement M
 write-refusal-spec =

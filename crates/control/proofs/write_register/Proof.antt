@@ -20,13 +20,20 @@ same-length c = search needs
 
 returns : tie.Need-returns
 unfolding writeReply bufferAfterWrite
-returns c = record { reply-is = when-refused _ _ (c .before .before .write-refusal .ensures) _ _ _ (c .before .if1 .taken) (c .refused .ensures ∙ ap (refused _) (c .before .before .write-refusal .ensures)); buffer-is = when-refused _ _ (c .before .before .write-refusal .ensures) _ _ _ (c .before .if1 .taken) refl }
+returns c = record {
+  reply-is = when-refused _ _ (c .before .before .write-refusal .ensures) _ _ _ (c .before .if1 .taken)
+      (c .refused .ensures ∙ ap (refused _) (c .before .before .write-refusal .ensures));
+  buffer-is = when-refused _ _
+      (c .before .before .write-refusal .ensures) _ _ _ (c .before .if1 .taken) refl;
+}
 
 write-buffer-requires : tie.Need-write-buffer-requires
-write-buffer-requires c κs = let w = write-accepted _ _ _ _ (sym (c .before .before .write-refusal .ensures) ∙ c .before .if1 .left) in (w .registers-fit, w .buffer-fits, w .value-fits)
+write-buffer-requires c κs = let w = write-accepted _ _ _ _ (sym (c .before .before .write-refusal .ensures) ∙ c .before .if1 .left) in
+    (w .registers-fit, w .buffer-fits, w .value-fits)
 
 put-requires : tie.Need-put-requires
-put-requires c κs = let w = write-accepted _ _ _ _ (sym (c .before .before .before .before .before .write-refusal .ensures) ∙ c .before .before .before .before .if1 .left) in omega (arith, w .number-lt)
+put-requires c κs = let w = write-accepted _ _ _ _ (sym (c .before .before .before .before .before .write-refusal .ensures)
+    ∙ c .before .before .before .before .if1 .left) in omega (arith, w .number-lt)
 
 done-requires : tie.Need-done-requires
 done-requires c κs = search needs
@@ -36,7 +43,14 @@ same-length-2 c = search needs
 
 returns-2 : tie.Need-returns-2
 unfolding writeReply bufferAfterWrite
-returns-2 c = record { reply-is = when-accepted _ _ (c .before .before .before .before .before .before .before .write-refusal .ensures) _ _ _ (c .before .before .before .before .before .before .if1 .left) (c .done .ensures ∙ ap (λ (q : Registers). done q 0) (c .before .put .ensures)); buffer-is = when-accepted _ _ (c .before .before .before .before .before .before .before .write-refusal .ensures) _ _ _ (c .before .before .before .before .before .before .if1 .left) (c .before .before .before .before .write-buffer .ensures) }
+returns-2 c = record {
+  reply-is = when-accepted _ _ (c .before .before .before .before .before .before .before .write-refusal .ensures) _
+      _ _ (c .before .before .before .before .before .before .if1 .left)
+      (c .done .ensures ∙ ap (λ (q : Registers). done q 0) (c .before .put .ensures));
+  buffer-is = when-accepted _ _
+      (c .before .before .before .before .before .before .before .write-refusal .ensures) _ _ _
+      (c .before .before .before .before .before .before .if1 .left) (c .before .before .before .before .write-buffer .ensures);
+}
 
 pub write-register-spec : {M : Type 1} → statement M
 write-register-spec =

@@ -19,7 +19,8 @@ cast-t13 : tie.Need-cast-t13
 cast-t13 c = search needs
 
 returns : tie.Need-returns
-returns c = fields-of _ _ _ _ _ (c .before .before .before .vpn15-of .ensures) (c .before .before .page-id-of .ensures) (c .before .is-global .ensures) (c .is-valid .ensures)
+returns c = fields-of _ _ _ _ _ (c .before .before .before .vpn15-of .ensures) (c .before .before .page-id-of .ensures)
+    (c .before .is-global .ensures) (c .is-valid .ensures)
 
 pub unpack-spec : {M : Type 1} → statement M
 unpack-spec =

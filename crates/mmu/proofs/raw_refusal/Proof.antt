@@ -18,15 +18,20 @@ buffer-fits-requires c κs = search needs
 
 returns-2 : tie.Need-returns-2
 unfolding rawRefusal
-returns-2 c = refuse-later _ _ _ _ (c .before .before .before .registers-fit .ensures) _ (c .before .before .if1 .left) (refuse-here _ _ _ _ (c .before .buffer-fits .ensures) (c .if2 .taken))
+returns-2 c = refuse-later _ _ _ _ (c .before .before .before .registers-fit .ensures) _ (c .before .before .if1 .left)
+    (refuse-here _ _ _ _ (c .before .buffer-fits .ensures) (c .if2 .taken))
 
 returns-3 : tie.Need-returns-3
 unfolding rawRefusal drawFits
-returns-3 c = refuse-later _ _ _ _ (c .before .before .before .before .before .registers-fit .ensures) _ (c .before .before .before .before .if1 .left) (refuse-later _ _ _ _ (c .before .before .before .buffer-fits .ensures) _ (c .before .before .if2 .left) (refuse-here _ _ _ _ (refl) (c .if3 .taken)))
+returns-3 c = refuse-later _ _ _ _ (c .before .before .before .before .before .registers-fit .ensures) _
+    (c .before .before .before .before .if1 .left) (refuse-later _ _ _ _ (c .before .before .before .buffer-fits .ensures) _
+    (c .before .before .if2 .left) (refuse-here _ _ _ _ refl (c .if3 .taken)))
 
 returns-4 : tie.Need-returns-4
 unfolding rawRefusal drawFits
-returns-4 c = refuse-later _ _ _ _ (c .before .before .before .before .before .registers-fit .ensures) _ (c .before .before .before .before .if1 .left) (refuse-later _ _ _ _ (c .before .before .before .buffer-fits .ensures) _ (c .before .before .if2 .left) (refuse-later _ _ _ _ (refl) _ (c .if3 .left) (refl)))
+returns-4 c = refuse-later _ _ _ _ (c .before .before .before .before .before .registers-fit .ensures) _
+    (c .before .before .before .before .if1 .left) (refuse-later _ _ _ _ (c .before .before .before .buffer-fits .ensures) _
+    (c .before .before .if2 .left) (refuse-later _ _ _ _ refl _ (c .if3 .left) refl))
 
 pub raw-refusal-spec : {M : Type 1} → statement M
 raw-refusal-spec =

@@ -6,7 +6,9 @@ use Rattle.probe.proofs.run.Statement.{statement}
 use Rattle.probe.proofs.run.Tie as tie
 
 abbrev Inv-loop : tie.InvT-loop
-Inv-loop bytes₀ buffer₀ table-bytes₀ tables₀ held₀ left₀ bytes buffer table-bytes tables held left = (length bytes₀ ≡ 640) × (length buffer₀ ≡ 80) × (length table-bytes₀ ≡ 65536) × (length tables₀ ≡ 16384) × (length bytes ≡ 640) × (length buffer ≡ 80) × (length table-bytes ≡ 65536) × (length tables ≡ 16384)
+Inv-loop bytes₀ buffer₀ table-bytes₀ tables₀ held₀ left₀ bytes buffer table-bytes tables held left =
+    (length bytes₀ ≡ 640) × (length buffer₀ ≡ 80) × (length table-bytes₀ ≡ 65536) × (length tables₀ ≡ 16384)
+    × (length bytes ≡ 640) × (length buffer ≡ 80) × (length table-bytes ≡ 65536) × (length tables ≡ 16384)
 
 abbrev μ-loop : tie.MeasureT-loop
 μ-loop bytes₀ buffer₀ table-bytes₀ tables₀ held₀ left₀ bytes buffer table-bytes tables held left = left

@@ -50,7 +50,18 @@ call-requires : tie.Need-call-requires
 call-requires c κs = search needs
 
 write-answer-requires : tie.Need-write-answer-requires
-write-answer-requires c κs = omega (arith, c .before .before .before .before .before .before .before .before .before .before .before .before .before .before .before .before .before .before .before .before .before .before .before .before .before .before .before .before .before .pre .0, c .before .before .before .before .before .before .before .before .before .before .before .before .before .before .before .before .before .before .before .bytes .given, c .before .before .before .before .before .before .before .before .before .before .before .before .before .before .before .before .before .buffer .given, c .before .before .before .buffer2 .given)
+write-answer-requires c κs = omega (
+  arith,
+  c .before .before .before .before .before .before .before .before .before .before .before
+      .before .before .before .before .before .before .before .before .before .before .before .before .before .before .before .before
+      .before .before .pre .0,
+  c .before .before .before .before .before .before .before .before .before .before .before .before .before
+      .before .before .before .before .before .before .bytes .given,
+  c .before .before .before .before .before .before .before
+      .before .before .before .before .before .before .before .before .before .before .buffer .given,
+  c .before .before .before
+      .buffer2 .given,
+)
 
 same-length-7 : tie.Need-same-length-7
 same-length-7 c = search needs

@@ -44,7 +44,13 @@ slice-aggregate-serve-2 : tie.Need-slice-aggregate-serve-2
 slice-aggregate-serve-2 c = simp length-take (omega arith)
 
 serve-requires : tie.Need-serve-requires
-serve-requires c κs = (simp length-take (omega arith), c .before .before .before .before .before .before .before .before .before .before .before .before .before .before .before .before .before .before .before .pre .2, c .before .before .before .before .before .before .before .before .before .before .before .before .before .before .before .before .before .before .before .pre .3)
+serve-requires c κs = (
+  simp length-take (omega arith),
+  c .before .before .before .before .before .before .before .before .before .before .before .before
+      .before .before .before .before .before .before .before .pre .2,
+  c .before .before .before .before .before .before .before .before
+      .before .before .before .before .before .before .before .before .before .before .before .pre .3,
+)
 
 same-length : tie.Need-same-length
 same-length c = search needs

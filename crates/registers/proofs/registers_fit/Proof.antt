@@ -29,13 +29,20 @@ fits-at-requires : tie.Need-fits-at-requires Inv-loop μ-loop
 fits-at-requires c κs = omega arith
 
 returns : tie.Need-returns Inv-loop μ-loop
-returns c = all-stop (λ place. fitsAt place (field (c .before .before .before .before .before .args .r) place)) _ _ (c .before .before .before .before .loop .inv .1) (omega arith) (sym (ap (fitsAt _) (c .before .before .field .ensures)) ∙ sym (c .before .fits-at .ensures) ∙ not-true _ (c .if1 .taken))
+returns c = all-stop (λ place. fitsAt place (field (c .before .before .before .before .before .args .r) place)) _ _
+    (c .before .before .before .before .loop .inv .1) (omega arith)
+    (sym (ap (fitsAt _) (c .before .before .field .ensures)) ∙ sym (c .before .fits-at .ensures) ∙ not-true _ (c .if1 .taken))
 
 loop-less : tie.Need-loop-less Inv-loop μ-loop
 loop-less c = omega arith
 
 loop-again : tie.Need-loop-again Inv-loop μ-loop
-loop-again c = (omega arith, all-turn (λ place. fitsAt place (field (c .before .before .before .before .before .args .r) place)) _ _ (c .before .before .before .before .loop .inv .1) (omega arith) (sym (ap (fitsAt _) (c .before .before .field .ensures)) ∙ sym (c .before .fits-at .ensures) ∙ not-false _ (c .if1 .left)))
+loop-again c = (
+  omega arith,
+  all-turn (λ place. fitsAt place (field (c .before .before .before .before .before .args .r) place)) _ _
+      (c .before .before .before .before .loop .inv .1) (omega arith)
+      (sym (ap (fitsAt _) (c .before .before .field .ensures)) ∙ sym (c .before .fits-at .ensures) ∙ not-false _ (c .if1 .left)),
+)
 
 returns-2 : tie.Need-returns-2 Inv-loop μ-loop
 returns-2 c = all-end (λ place. fitsAt place (field (c .before .before .args .r) place)) _ _ (c .before .loop .inv .1) (omega arith)

@@ -51,7 +51,12 @@ loop-less : tie.Need-loop-less Inv-loop μ-loop
 loop-less c = omega arith
 
 loop-again : tie.Need-loop-again Inv-loop μ-loop
-loop-again c = (sets-turn _ _ _ _ _ (c .before .before .before .before .before .before .loop .inv .0) (omega arith) (c .before .before .before .before .empty-entry .ensures) (c .before .before .fill .ensures), c .before .before .before .before .before .before .loop .inv .1)
+loop-again c = (
+  sets-turn _ _ _ _ _ (c .before .before .before .before .before .before .loop .inv .0) (omega arith)
+      (c .before .before .before .before .empty-entry .ensures) (c .before .before .fill .ensures),
+  c .before .before .before .before
+      .before .before .loop .inv .1,
+)
 
 same-length : tie.Need-same-length Inv-loop μ-loop
 same-length c = c .before .loop .inv .0 .same-length ∙ sym (c .before .loop .inv .1)

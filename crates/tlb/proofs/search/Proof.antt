@@ -12,7 +12,10 @@ use Rattle.tlb.proofs.search.Statement.{statement}
 use Rattle.tlb.proofs.search.Tie as tie
 
 abbrev Inv-loop : tie.InvT-loop
-Inv-loop buffer inv-exc context vpn otherwise number₀ set₀ left₀ number set left = (bufferFits (Wide buffer) ≡ true) × Turn (setHits (Wide buffer) inv-exc context vpn) 4 (hitCount (Wide buffer) inv-exc context vpn) (hitSet (Wide buffer) inv-exc context vpn otherwise) number set left
+Inv-loop buffer inv-exc context vpn otherwise number₀ set₀ left₀ number set left =
+    (bufferFits (Wide buffer) ≡ true)
+    × Turn (setHits (Wide buffer) inv-exc context vpn) 4 (hitCount (Wide buffer) inv-exc context vpn)
+    (hitSet (Wide buffer) inv-exc context vpn otherwise) number set left
 
 abbrev μ-loop : tie.MeasureT-loop
 μ-loop buffer inv-exc context vpn otherwise number₀ set₀ left₀ number set left = left
@@ -40,13 +43,25 @@ loop-less : tie.Need-loop-less Inv-loop μ-loop
 loop-less c = omega arith
 
 loop-again : tie.Need-loop-again Inv-loop μ-loop
-loop-again c = (c .before .before .before .before .before .loop .inv .0, turn-hit _ _ _ _ _ _ _ (c .before .before .before .before .before .loop .inv .1) (omega arith) (set-told _ _ _ _ _ _ _ _ (c .before .before .before .slot-of .ensures) (c .before .before .slot-at .ensures) (c .before .hit .ensures) ∙ c .if1 .taken))
+loop-again c = (
+  c .before .before .before .before .before .loop .inv .0,
+  turn-hit _ _ _ _ _ _ _
+      (c .before .before .before .before .before .loop .inv .1) (omega arith)
+      (set-told _ _ _ _ _ _ _ _ (c .before .before .before .slot-of .ensures) (c .before .before .slot-at .ensures)
+      (c .before .hit .ensures) ∙ c .if1 .taken),
+)
 
 loop-less-2 : tie.Need-loop-less-2 Inv-loop μ-loop
 loop-less-2 c = omega arith
 
 loop-again-2 : tie.Need-loop-again-2 Inv-loop μ-loop
-loop-again-2 c = (c .before .before .before .before .before .loop .inv .0, turn-miss _ _ _ _ _ _ _ (c .before .before .before .before .before .loop .inv .1) (omega arith) (set-told _ _ _ _ _ _ _ _ (c .before .before .before .slot-of .ensures) (c .before .before .slot-at .ensures) (c .before .hit .ensures) ∙ c .if1 .left))
+loop-again-2 c = (
+  c .before .before .before .before .before .loop .inv .0,
+  turn-miss _ _ _ _ _ _ _
+      (c .before .before .before .before .before .loop .inv .1) (omega arith)
+      (set-told _ _ _ _ _ _ _ _ (c .before .before .before .slot-of .ensures) (c .before .before .slot-at .ensures)
+      (c .before .hit .ensures) ∙ c .if1 .left),
+)
 
 returns : tie.Need-returns Inv-loop μ-loop
 returns c = let f = finish _ _ _ _ _ _ _ (c .before .loop .inv .1) (omega arith) in record { number-is = f .0; set-is = f .1 }
