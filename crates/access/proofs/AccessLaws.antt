@@ -1,5 +1,5 @@
 -- The ways through a raw access: what each gives is what the definitions say. Assumes nothing.
-use Prim.Native.Nat.{ℕ, zero, suc, _+_, _*_, _/_, _%_, _<_}
+use Prim.Native.Nat.{ℕ, zero, suc, _+_, _*_, _%_, _<_}
 use mathlib.Core.Path.{_≡_, refl, sym, _∙_}
 use mathlib.Core.Bool.{Bool, true, false, not, _&&_, Bool·not-not}
 use native.Mathlib.Omega.{arith}
@@ -42,7 +42,7 @@ is-on : (x : ℕ) → (x ≡ 0 → ⊥) → isSet x ≡ true
 unfolding isSet
 is-on x h = rw (ne-eqb x 0 h)
 
-pub cause-is : (r : Registers) (a : Access) (slot value : ℕ)
+pub cause-is : (r : Registers) (a : Access) (slot value vpn : ℕ) → vpn ≡ vpnOf (a .address)
     → record {
       kseg = r .kseg;
       ctrl = r .ctrl;
@@ -51,14 +51,14 @@ pub cause-is : (r : Registers) (a : Access) (slot value : ℕ)
       «kbase_hi» = r .«kbase_hi»;
       context = r .context;
       select = slot;
-      «tlb_hi» = a .address / 8192 % 524288 * 64 + r .context;
+      «tlb_hi» = vpn * 64 + r .context;
       «tlb_lo» = r .«tlb_lo»;
       test = r .test;
       cause = value * 2 + boolByte (a .write);
     }
     ≡ withCause r a slot value
-unfolding withCause put toWords fromWords vpnOf
-cause-is r a slot value = rw (bit-byte (a .write))
+unfolding withCause put toWords fromWords
+cause-is r a slot value vpn q = rw (q, bit-byte (a .write))
 
 module _ (r : Registers) (a : Access) (tested : Physical) where
   pub address-off : r .enable ≡ 0 → Address (a .address) ≡ exceptionAddress r a tested
@@ -113,17 +113,23 @@ module _ (r : Registers) (a : Access) (slot : ℕ) (f : Entry) (value : ℕ) (x 
   hit-address address z h e q = q ∙ rw e (sym (rw (eq-eqb (hitValue r a f) 0 (sym vq ∙ z), is-on (r .enable) h)))
 
 -- the buffer's answer by the number of hits
-module _ (r : Registers) (b : Buffer) (a : Access) (hits set : ℕ) (x : Translation)
-    (s : Searched b (invExc (r .ctrl)) (r .context) (vpnOf (a .address)) (a .draw) hits set) where
-  pub mapped-miss : (slot : ℕ) → hits ≡ 0 → slot ≡ slotOf (a .draw) (vpnOf (a .address)) → x ≡ exceptionAnswer r a slot MISS None
-      → x ≡ pageMapped r b a
-  unfolding pageMapped byHitCount
-  mapped-miss slot z e q = q ∙ rw e (sym (rw (sym (s .number-is) ∙ z)))
+module _ (r : Registers) (b : Buffer) (a : Access) (inv : Bool) (vpn hits set : ℕ) (x : Translation) (iq : inv ≡ invExc (r .ctrl))
+    (vq : vpn ≡ vpnOf (a .address)) (found : Searched b inv (r .context) vpn (a .draw) hits set) where
+  count-is : hits ≡ hitCount b (invExc (r .ctrl)) (r .context) (vpnOf (a .address))
+  count-is = rw (← iq, ← vq) (found .count-is)
 
-  pub mapped-hit : (slot e : ℕ) (f : Entry) → hits ≡ 1 → slot ≡ slotOf set (vpnOf (a .address)) → e ≡ slotAt b slot → f ≡ unpack e
-      → x ≡ onHit r a slot f → x ≡ pageMapped r b a
-  unfolding pageMapped byHitCount foundSet fieldsAt
-  mapped-hit slot e f z p k u q = q ∙ rw (u, k, p, s .set-is) (sym (rw (sym (s .number-is) ∙ z)))
+  set-is : set ≡ foundSet r b a
+  unfolding foundSet
+  set-is = rw (← iq, ← vq) (found .set-is)
+
+  pub mapped-miss : (slot : ℕ) → hits ≡ 0 → slot ≡ slotOf (a .draw) vpn → x ≡ exceptionAnswer r a slot MISS None → x ≡ pageMapped r b a
+  unfolding pageMapped byHitCount
+  mapped-miss slot z e q = q ∙ rw (e, vq) (sym (rw (sym count-is ∙ z)))
+
+  pub mapped-hit : (slot e : ℕ) (f : Entry) → hits ≡ 1 → slot ≡ slotOf set vpn → e ≡ slotAt b slot → f ≡ unpack e → x ≡ onHit r a slot f
+      → x ≡ pageMapped r b a
+  unfolding pageMapped byHitCount fieldsAt
+  mapped-hit slot e f z p k u q = q ∙ rw (u, k, p, set-is, vq) (sym (rw (sym count-is ∙ z)))
 
   pub mapped-many : (hits ≡ 0 → ⊥) → (hits ≡ 1 → ⊥) → x ≡ exceptionAnswer r a (r .select) 0 None → x ≡ pageMapped r b a
   unfolding pageMapped byHitCount
@@ -131,8 +137,8 @@ module _ (r : Registers) (b : Buffer) (a : Access) (hits set : ℕ) (x : Transla
       q
       ∙ many
       (hitCount b (invExc (r .ctrl)) (r .context) (vpnOf (a .address)))
-      (λ y. z (s .number-is ∙ y))
-      (λ y. o (s .number-is ∙ y))
+      (λ y. z (count-is ∙ y))
+      (λ y. o (count-is ∙ y))
     where
       many : (n : ℕ) → (n ≡ 0 → ⊥) → (n ≡ 1 → ⊥)
           → exceptionAnswer r a (r .select) 0 None ≡ byHitCount n r a (foundSet r b a) (fieldsAt b (vpnOf (a .address)) (foundSet r b a))

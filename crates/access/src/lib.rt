@@ -3,8 +3,8 @@ ghost use mathlib.Core.Path.{_≡_};
 ghost use Prim.Native.Nat.{_<_, _≤_};
 ghost use Rattle.runs.specs.Bits.{bit};
 ghost use Rattle.slots.specs.Buffer.{Buffer};
-ghost use Rattle.access.specs.Segments.{inLinearSegment, linearAddress, segmentBase};
-ghost use Rattle.access.specs.Exceptions.{exceptionValue};
+ghost use Rattle.access.specs.Segments.{inLinearSegment, linearAddress, segmentBase, segmentOf};
+ghost use Rattle.access.specs.Exceptions.{accExc, exceptionValue, invExc, weExc};
 ghost use Rattle.access.specs.Translation.{Accepted, exceptionAddress, exceptionAnswer, noException, onHit, pageMapped, translate};
 ghost use Rattle.access.specs.Translation.{withCause};
 use entry::Entry;
@@ -26,11 +26,18 @@ pub struct Translation {
     pub registers: Registers,
 }
 
+// Address bits 31 to 28.
+fn segment_of(address: u32) -> u32
+    ensures { λ r. ⌜ (r ≡ segmentOf address) × (r < 16) ⌝ }
+{
+    address / 268435456 % 16
+}
+
 // Supervisor mode, and the segment's bit in KSEG set.
 fn in_linear_segment(kseg: u32, a: Access) -> bool
     ensures { λ r. ⌜ r ≡ inLinearSegment kseg a ⌝ }
 {
-    let segment = a.address / 268435456 % 16;
+    let segment = segment_of(a.address);
     !a.user & ((kseg >> segment) % 2 == 1)
 }
 
@@ -48,8 +55,30 @@ fn segment_base(lo: u32, hi: u32, segment: u32) -> u32
 fn linear_address(r: Registers, address: u32) -> u32
     ensures { λ p. ⌜ p ≡ linearAddress r address ⌝ }
 {
-    let base = segment_base(r.kbase_lo, r.kbase_hi, address / 268435456 % 16);
+    let segment = segment_of(address);
+    let base = segment_base(r.kbase_lo, r.kbase_hi, segment);
     base * 268435456 + address % 268435456
+}
+
+// CTRL's bit 2.
+fn inv_exc(ctrl: u32) -> bool
+    ensures { λ r. ⌜ r ≡ invExc ctrl ⌝ }
+{
+    ctrl / 4 % 2 == 1
+}
+
+// CTRL's bit 1.
+fn acc_exc(ctrl: u32) -> bool
+    ensures { λ r. ⌜ r ≡ accExc ctrl ⌝ }
+{
+    ctrl / 2 % 2 == 1
+}
+
+// CTRL's bit 0.
+fn we_exc(ctrl: u32) -> bool
+    ensures { λ r. ⌜ r ≡ weExc ctrl ⌝ }
+{
+    ctrl % 2 == 1
 }
 
 fn bit(flag: bool) -> u32
@@ -62,9 +91,9 @@ fn bit(flag: bool) -> u32
 fn exception_value(ctrl: u32, a: Access, f: Entry) -> u32
     ensures { λ r. ⌜ (r ≡ exceptionValue ctrl a (f .valid) (f .kernel) (f .we)) × (r < 8) ⌝ }
 {
-    let write_error = bit(a.write & !f.we & (ctrl % 2 == 1));
-    let access_violation = bit(a.user & f.kernel & (ctrl / 2 % 2 == 1));
-    let invalid_page = bit(!f.valid & (ctrl / 4 % 2 == 1));
+    let write_error = bit(a.write & !f.we & we_exc(ctrl));
+    let access_violation = bit(a.user & f.kernel & acc_exc(ctrl));
+    let invalid_page = bit(!f.valid & inv_exc(ctrl));
     write_error + 2 * access_violation + 4 * invalid_page
 }
 
@@ -85,9 +114,10 @@ fn with_cause(r: Registers, a: Access, slot: u32, value: u32) -> Registers
     requires { ⌜ (r .context < 64) × (value < 16) ⌝ }
     ensures { λ q. ⌜ q ≡ withCause r a slot value ⌝ }
 {
+    let vpn = entry::vpn_of(a.address);
     let mut q = r;
     q.select = slot;
-    q.tlb_hi = a.address / 8192 % 524288 * 64 + r.context;
+    q.tlb_hi = vpn * 64 + r.context;
     q.cause = value * 2 + a.write as u32;
     q
 }
@@ -141,9 +171,9 @@ fn page_mapped(r: Registers, buffer: &[u64], a: Access) -> Translation
     requires { ⌜ Accepted r (Buffer.Wide (now buffer)) a ⌝ }
     ensures { λ t. ⌜ t ≡ pageMapped r (Buffer.Wide (now (buffer .entry))) a ⌝ }
 {
-    let vpn = a.address / 8192 % 524288;
-    let found = tlb::search(buffer, r.ctrl / 4 % 2 == 1, r.context, vpn, a.draw);
-    let hits = found.number;
+    let vpn = entry::vpn_of(a.address);
+    let found = tlb::search(buffer, inv_exc(r.ctrl), r.context, vpn, a.draw);
+    let hits = found.count;
     if hits == 0 {
         let drawn = entry::slot_of(a.draw, vpn);
         return exception_answer(r, a, drawn, 8, Physical::None);

@@ -1,23 +1,23 @@
 -- What calls that are not refused were handed, and the ways through a start and a register write. Assumes nothing.
 use Prim.Native.Nat.{ℕ, _/_, _%_, _<_}
-use mathlib.Core.Path.{_≡_, refl, sym, _∙_}
+use mathlib.Core.Path.{_≡_, refl, sym, ap, _∙_}
 use mathlib.Core.Bool.{Bool, true, false, not}
 use native.Mathlib.Omega.{arith}
 use lib.Dec.{lit<}
 use borrow.Author.Tests.{ltb-true, eq-eqb, ne-eqb, not-false}
 use Rattle.runs.proofs.Bits.{bits-low}
 use Rattle.entry.specs.Entry.{join}
-use Rattle.registers.specs.Fields.{field, toWords, widths, fitsAt, registersFit, zeroRegisters}
-use Rattle.registers.specs.Replies.{refused, done}
+use Rattle.registers.specs.Fields.{field, put, toWords, widths, fitsAt, registersFit, zeroRegisters}
+use Rattle.registers.specs.Replies.{refusalOf, refused, done}
 use Rattle.registers.proofs.Fields.{fits-place}
-use Rattle.registers.proofs.RefusalLaws.{passed, refuse-here, refuse-later, when-accepted, when-refused}
+use Rattle.registers.proofs.RefusalLaws.{passed, refuse-here, refuse-later, when-accepted, when-refused, reply-refusal}
 use Rattle.registers.specs.declared.Registers.{Registers}
 use Rattle.registers.specs.declared.Reply.{Reply}
 use Rattle.slots.specs.Buffer.{Buffer, bufferFits, withSlot}
 use Rattle.slots.specs.Start.{startBuffer}
 use Rattle.control.specs.Starting.{startRefusal, startReply, startedBuffer, StartGives}
-use Rattle.control.specs.Writing.{isRegister, writeRefusal, writtenEntry, writtenBuffer}
-use Rattle.control.specs.Reading.{readRefusal}
+use Rattle.control.specs.Writing.{isRegister, writeRefusal, writtenEntry, writtenBuffer, writeReply, bufferAfterWrite, WriteGives}
+use Rattle.control.specs.Reading.{readRefusal, readReply, ReadGives}
 
 pub number-below : (number : ℕ) (t : Bool) → t ≡ isRegister number → not t ≡ false → number < 10
 unfolding isRegister
@@ -69,20 +69,43 @@ module _ (r : Registers) (b : Buffer) (number value : ℕ) where
   unfolding writtenBuffer
   stores-none n = sym (rw (ne-eqb number 8 n))
 
+-- what each reply promises
+pub start-gives : (b after : Buffer) (reply : Reply) → reply ≡ startReply b → after ≡ startedBuffer b → StartGives b after reply
+unfolding startReply
+start-gives b after reply q e = record {
+  refusal-is = ap (λ (s : Reply). refusalOf (s .outcome)) q ∙ reply-refusal (startRefusal b) 0 zeroRegisters zeroRegisters;
+  reply-is = q;
+  buffer-is = e;
+}
+
+pub write-gives : (r : Registers) (b after : Buffer) (number value : ℕ) (reply : Reply) → reply ≡ writeReply r b number value
+    → after ≡ bufferAfterWrite r b number value → WriteGives r b after number value reply
+unfolding writeReply
+write-gives r b after number value reply q e = record {
+  refusal-is = ap (λ (s : Reply). refusalOf (s .outcome)) q ∙ reply-refusal (writeRefusal r b number value) 0 (put r number value) r;
+  reply-is = q;
+  buffer-is = e;
+}
+
+pub read-gives : (r : Registers) (number : ℕ) (reply : Reply) → reply ≡ readReply r number → ReadGives r number reply
+unfolding readReply
+read-gives r number reply q = record {
+  refusal-is = ap (λ (s : Reply). refusalOf (s .outcome)) q ∙ reply-refusal (readRefusal r number) (field r number) r r;
+  reply-is = q;
+}
+
 -- the two ways through a start
 module _ (b : Buffer) (t : Bool) (r : Registers) (reply : Reply) (tq : t ≡ bufferFits b) (rq : r ≡ zeroRegisters) where
   pub start-refused : not t ≡ true → reply ≡ refused r 2 → StartGives b b reply
   unfolding startRefusal startReply startedBuffer
   start-refused h q =
-      let two = refuse-here (bufferFits b) t 2 0 tq h in record {
-        reply-is = when-refused _ 2 two _ _ _ (λ e. omega arith) (q ∙ rw (rq, ← two) refl);
-        buffer-is = when-refused _ 2 two _ _ _ (λ e. omega arith) refl;
-      }
+      let two = refuse-here (bufferFits b) t 2 0 tq h in
+      start-gives b b reply
+      (when-refused _ 2 two _ _ _ (λ e. omega arith) (q ∙ rw (rq, ← two) refl))
+      (when-refused _ 2 two _ _ _ (λ e. omega arith) refl)
 
   pub start-done : (after : Buffer) → not t ≡ false → reply ≡ done r 0 → after ≡ startBuffer b → StartGives b after reply
   unfolding startRefusal startReply startedBuffer
   start-done after h q e =
-      let none = refuse-later (bufferFits b) t 2 0 tq 0 h refl in record {
-        reply-is = when-accepted _ 0 none _ _ _ refl (q ∙ rw rq refl);
-        buffer-is = when-accepted _ 0 none _ _ _ refl e;
-      }
+      let none = refuse-later (bufferFits b) t 2 0 tq 0 h refl in
+      start-gives b after reply (when-accepted _ 0 none _ _ _ refl (q ∙ rw rq refl)) (when-accepted _ 0 none _ _ _ refl e)

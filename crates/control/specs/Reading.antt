@@ -3,7 +3,7 @@ use Prim.Native.Nat.{ℕ}
 use mathlib.Core.Path.{_≡_}
 use Rattle.registers.specs.Fields.{field, registersFit}
 use Rattle.registers.specs.Refusals.{refuseUnless, byRefusal}
-use Rattle.registers.specs.Replies.{refused, done}
+use Rattle.registers.specs.Replies.{refusalOf, refused, done}
 use Rattle.registers.specs.declared.Registers.{Registers}
 use Rattle.registers.specs.declared.Reply.{Reply}
 use Rattle.control.specs.Writing.{isRegister}
@@ -17,4 +17,5 @@ readReply r number = byRefusal (readRefusal r number) (done r (field r number)) 
 
 -- what the call promises
 pub record ReadGives (r : Registers) (number : ℕ) (reply : Reply) : Type 0 where
+  pub refusal-is : refusalOf (reply .outcome) ≡ readRefusal r number
   pub reply-is : reply ≡ readReply r number

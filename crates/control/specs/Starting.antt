@@ -3,7 +3,7 @@ use Prim.Native.Nat.{ℕ}
 use mathlib.Core.Path.{_≡_}
 use Rattle.registers.specs.Fields.{zeroRegisters}
 use Rattle.registers.specs.Refusals.{refuseUnless, byRefusal}
-use Rattle.registers.specs.Replies.{refused, done}
+use Rattle.registers.specs.Replies.{refusalOf, refused, done}
 use Rattle.registers.specs.declared.Reply.{Reply}
 use Rattle.slots.specs.Buffer.{Buffer, bufferFits}
 use Rattle.slots.specs.Start.{startBuffer}
@@ -20,5 +20,6 @@ startedBuffer b = byRefusal (startRefusal b) (startBuffer b) b
 
 -- what the call promises
 pub record StartGives (b after : Buffer) (reply : Reply) : Type 0 where
+  pub refusal-is : refusalOf (reply .outcome) ≡ startRefusal b
   pub reply-is : reply ≡ startReply b
   pub buffer-is : after ≡ startedBuffer b

@@ -7,7 +7,7 @@ use Rattle.runs.specs.Bits.{bits}
 use Rattle.entry.specs.Entry.{join}
 use Rattle.registers.specs.Fields.{put, fitsAt, registersFit, TLB_LO}
 use Rattle.registers.specs.Refusals.{refuseUnless, byRefusal}
-use Rattle.registers.specs.Replies.{refused, done}
+use Rattle.registers.specs.Replies.{refusalOf, refused, done}
 use Rattle.registers.specs.declared.Registers.{Registers}
 use Rattle.registers.specs.declared.Reply.{Reply}
 use Rattle.slots.specs.Buffer.{Buffer, bufferFits, withSlot}
@@ -44,5 +44,6 @@ bufferAfterWrite r b number value = byRefusal (writeRefusal r b number value) (w
 
 -- what the call promises
 pub record WriteGives (r : Registers) (b after : Buffer) (number value : ℕ) (reply : Reply) : Type 0 where
+  pub refusal-is : refusalOf (reply .outcome) ≡ writeRefusal r b number value
   pub reply-is : reply ≡ writeReply r b number value
   pub buffer-is : after ≡ bufferAfterWrite r b number value

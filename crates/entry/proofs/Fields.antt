@@ -6,7 +6,7 @@ use native.Mathlib.Omega.{arith}
 use mir.Val.{boolByte}
 use Rattle.runs.specs.Bits.{flag}
 use Rattle.runs.proofs.Bits.{bits-low, bit-le, byte-le, bit-byte}
-use Rattle.entry.specs.Address.{location, slotOf}
+use Rattle.entry.specs.Address.{vpnOf, location, slotOf}
 use Rattle.entry.specs.Entry.{unpack, join, lowBits, pack, EntryFits}
 use Rattle.entry.specs.Empty.{emptyFields, emptyEntry}
 use Rattle.entry.specs.declared.Entry.{Entry}
@@ -61,3 +61,8 @@ empty-lt set h = pack-lt (emptyFields set) (empty-fits set h)
 pub slot-lt : (set vpn : ℕ) → set < 4 → slotOf set vpn < 64
 unfolding slotOf location
 slot-lt set vpn h = omega arith
+
+-- a vpn has nineteen bits
+pub vpn-lt : (address : ℕ) → vpnOf address < 2 ^ 19
+unfolding vpnOf
+vpn-lt address = omega arith

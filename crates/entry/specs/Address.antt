@@ -19,9 +19,6 @@ vpn15Of vpn = vpn / 16
 unfoldable pub slotOf : (set vpn : ℕ) → ℕ
 slotOf set vpn = 16 * set + location vpn
 
--- the set of a slot, and the vpn whose vpn15 an entry at that slot holds
+-- the set of a slot
 unfoldable pub setOf : (slot : ℕ) → ℕ
 setOf slot = slot / 16
-
-unfoldable pub vpnAt : (slot vpn15 : ℕ) → ℕ
-vpnAt slot vpn15 = 16 * vpn15 + slot % 16

@@ -1,7 +1,7 @@
 // An entry of the translation buffer, as one number of 64 bits and as its fields; the empty slot; a page's slots.
 ghost use mathlib.Core.Path.{_≡_};
 ghost use Prim.Native.Nat.{_<_, _^_};
-ghost use Rattle.entry.specs.Address.{slotOf};
+ghost use Rattle.entry.specs.Address.{slotOf, vpnOf};
 ghost use Rattle.entry.specs.Entry.{EntryFits, join, lowBits, pack, unpack};
 ghost use Rattle.entry.specs.Empty.{emptyEntry};
 
@@ -102,6 +102,13 @@ pub fn empty_entry(set: u32) -> u64
         we: false,
         pfn: 0,
     })
+}
+
+// The virtual page number of an address.
+pub fn vpn_of(address: u32) -> u32
+    ensures { λ r. ⌜ r ≡ vpnOf address ⌝ }
+{
+    address / 8192 % 524288
 }
 
 // The slot of a set in which a page's entry stands.

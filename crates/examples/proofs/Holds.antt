@@ -22,10 +22,12 @@ use Rattle.control.specs.Starting.{startRefusal, startReply, startedBuffer}
 use Rattle.control.specs.Writing.{isRegister, writeRefusal, writtenEntry, writtenBuffer, writeReply, bufferAfterWrite}
 use Rattle.control.specs.Reading.{readRefusal, readReply}
 use Rattle.examples.specs.Claims.{Values, allComputed, allOwed}
-use Rattle.examples.specs.Setting.{registersWith, started, user, supervisor, answered, entryWith, oneEntry, twoEntries}
-use Rattle.examples.specs.Marked.{slotsOf, linear, enabled, blamed, selected, marked}
+use Rattle.examples.specs.Setting.{registersWith, enabled, enabledAfter, started, user, supervisor, replied, entryWith, oneEntry}
+use Rattle.examples.specs.Setting.{twoEntries}
+use Rattle.examples.specs.Marked.{slotsOf, linear, selected, marked}
 use Rattle.examples.specs.Accesses.{row, rowAfter, kernelPage, openPage, rows, based, segments, tooWide, refusals}
-use Rattle.examples.specs.Calls.{short, caused, calls}
+use Rattle.examples.specs.Conditions.{exceptions, globalEntry, highBits, hits}
+use Rattle.examples.specs.Calls.{short, caused, calls, largest, fields}
 use Rattle.examples.specs.Walks.{tables, good, shared, globalBroken, walks}
 use Rattle.examples.specs.Examples.{examples}
 
@@ -37,7 +39,7 @@ unfolding all count lowest vpnOf offsetOf location vpn15Of slotOf setOf unpack j
     nibble segmentBase linearAddress invExc accExc weExc writeError accessViolation invalidPage exceptionValue pageAddress isSet
     noException withCause exceptionAddress interrupts exceptionAnswer hitValue onHit byHitCount foundSet pageMapped translate
     rawRefusal rawReply startRefusal startReply startedBuffer isRegister writeRefusal writtenEntry writtenBuffer writeReply
-    bufferAfterWrite readRefusal readReply Values allComputed allOwed registersWith started user supervisor answered entryWith oneEntry
-    twoEntries slotsOf linear enabled blamed selected marked row rowAfter kernelPage openPage rows based segments tooWide refusals
-    short caused calls tables good shared globalBroken walks examples
+    bufferAfterWrite readRefusal readReply Values allComputed allOwed registersWith enabled enabledAfter started user supervisor
+    replied entryWith oneEntry twoEntries slotsOf linear selected marked row rowAfter kernelPage openPage rows based segments tooWide
+    refusals exceptions globalEntry highBits hits short caused calls largest fields tables good shared globalBroken walks examples
 all-hold = refl

@@ -1,17 +1,23 @@
--- Starts, register writes and register reads.
-use Prim.Native.Nat.{ℕ, _+_, _*_}
+-- Starts, register writes and register reads, and the bits of each field.
+use Prim.Native.Nat.{_+_, _*_}
 use mathlib.Core.List.{List, [], _∷_}
-use lib.ListN.{replicate}
-use Rattle.registers.specs.Fields.{zeroRegisters, SELECT, TLB_HI, TLB_LO, CAUSE}
+use mathlib.Core.Bool.{true, false}
+use lib.ListN.{set, replicate}
+use Rattle.registers.specs.Fields.{put, registersFit, zeroRegisters, KSEG, CTRL, ENABLE, KBASE_LO, KBASE_HI, CONTEXT, SELECT, TLB_HI}
+use Rattle.registers.specs.Fields.{TLB_LO, TEST, CAUSE}
 use Rattle.registers.specs.Replies.{refused, done}
 use Rattle.registers.specs.declared.Registers.{Registers}
 use Rattle.slots.specs.Buffer.{Buffer, slotAt}
 use Rattle.slots.specs.Buffer.Buffer.{Wide}
+use Rattle.access.specs.declared.Physical.the-variants.{None}
+use Rattle.mmu.specs.RawAccess.{rawReply}
 use Rattle.control.specs.Starting.{startReply, startedBuffer}
 use Rattle.control.specs.Writing.{writeReply, bufferAfterWrite}
 use Rattle.control.specs.Reading.{readReply}
 use Rattle.examples.specs.Claims.{Example, _gives_}
-use Rattle.examples.specs.Setting.{reg, registersWith, CONTEXT, TEST, started}
+use Rattle.examples.specs.Setting.{reg, registersWith, enabledAfter, started, user, replied}
+use Rattle.examples.specs.Marked.{selected}
+use Rattle.examples.specs.Accesses.{tooWide}
 
 -- a buffer that is one slot short
 unfoldable pub short : Buffer
@@ -38,10 +44,46 @@ calls =
     ∷ (writeReply caused started CONTEXT 63
     gives done (registersWith (reg CONTEXT 63 ∷ reg TLB_HI (7 * 64 + 3) ∷ reg CAUSE 17 ∷ reg SELECT 63 ∷ [])) 0)
     ∷ (writeReply caused started CONTEXT 64 gives refused caused 7)
-    ∷ (writeReply caused started CAUSE 0 gives refused caused 7)
-    ∷ (writeReply caused short CAUSE 0 gives refused caused 2)
+    ∷ (writeReply caused started 10 0 gives refused caused 7)
+    ∷ (writeReply caused short 10 0 gives refused caused 2)
     -- reading TLB_HI gives the shared fields
     ∷ (readReply caused TLB_HI gives done caused (7 * 64 + 3))
     ∷ (readReply caused TEST gives done caused 0)
-    ∷ (readReply caused CAUSE gives refused caused 7)
+    ∷ (readReply caused 10 gives refused caused 7)
+    -- registers are judged first
+    ∷ (writeReply tooWide short 10 0 gives refused tooWide 1)
+    ∷ (readReply tooWide 10 gives refused tooWide 1)
+    -- a refused write touches no slot, and an accepted one touches no other, whatever stood above bit 43
+    ∷ (writeReply caused started TLB_LO 0x800000 gives refused caused 7)
+    ∷ (bufferAfterWrite caused started TLB_LO 0x800000 gives started)
+    ∷ (bufferAfterWrite caused (Wide (replicate 64 0xFFFFFFFFFFFFFFFF)) TLB_LO 0x7fffff
+    gives Wide (set (replicate 64 0xFFFFFFFFFFFFFFFF) 63 (3 * 8388608 + 0x7fffff)))
+    -- the entry of marked example 13 does not answer for the vpn that stood in TLB_HI
+    ∷ (rawReply selected (bufferAfterWrite selected started TLB_LO 0x00280077) (user true (0x12345 * 8192) 0)
+    gives replied None true true 8 (enabledAfter 5 0 5 0x12345 17))
+    ∷ []
+
+-- every field at its largest value
+unfoldable pub largest : Registers
+largest =
+    registersWith
+    (reg KSEG 0xFFFF ∷ reg CTRL 7 ∷ reg ENABLE 1 ∷ reg KBASE_LO 0xFFFFFFFF ∷ reg KBASE_HI 0xFFFFFFFF ∷ reg CONTEXT 63 ∷ reg SELECT 63
+    ∷ reg TLB_HI 0x1FFFFFF ∷ reg TLB_LO 0x7FFFFF ∷ reg TEST 1 ∷ reg CAUSE 31 ∷ [])
+
+unfoldable pub fields : List Example
+fields =
+    -- number 1: each field one past its bits
+    (registersFit largest gives true)
+    ∷ (registersFit (put largest KSEG 0x10000) gives false)
+    ∷ (registersFit (put largest CTRL 8) gives false)
+    ∷ (registersFit (put largest ENABLE 2) gives false)
+    ∷ (registersFit (put largest CONTEXT 64) gives false)
+    ∷ (registersFit (put largest SELECT 64) gives false)
+    ∷ (registersFit (put largest TLB_HI 0x2000000) gives false)
+    ∷ (registersFit (put largest TLB_LO 0x800000) gives false)
+    ∷ (registersFit (put largest TEST 2) gives false)
+    ∷ (registersFit (put largest CAUSE 32) gives false)
+    -- a read of TLB_LO gives what was last written
+    ∷ (readReply largest TLB_LO gives done largest 0x7FFFFF)
+    ∷ (readReply largest TEST gives done largest 1)
     ∷ []

@@ -3,8 +3,9 @@ use mathlib.Core.List.{List, _++_}
 use Rattle.examples.specs.Claims.{Example}
 use Rattle.examples.specs.Marked.{marked}
 use Rattle.examples.specs.Accesses.{rows, segments, refusals}
-use Rattle.examples.specs.Calls.{calls}
+use Rattle.examples.specs.Conditions.{exceptions, hits}
+use Rattle.examples.specs.Calls.{calls, fields}
 use Rattle.examples.specs.Walks.{walks}
 
 unfoldable pub examples : List Example
-examples = marked ++ rows ++ segments ++ refusals ++ calls ++ walks
+examples = marked ++ rows ++ segments ++ refusals ++ exceptions ++ hits ++ calls ++ fields ++ walks

@@ -4,47 +4,34 @@ use mathlib.Core.Bool.{Bool, true, false}
 use mathlib.Core.List.{List, [], _∷_}
 use lib.ListN.{replicate}
 use Rattle.entry.specs.Entry.{pack}
-use Rattle.registers.specs.Fields.{put, zeroRegisters}
+use Rattle.registers.specs.Fields.{put, zeroRegisters, CTRL, ENABLE, CONTEXT, SELECT, TLB_HI, CAUSE}
 use Rattle.registers.specs.declared.Access.{Access}
 use Rattle.registers.specs.declared.Registers.{Registers}
 use Rattle.slots.specs.Buffer.{Buffer, withSlot}
 use Rattle.slots.specs.Buffer.Buffer.{Wide}
 use Rattle.slots.specs.Start.{startBuffer}
 use Rattle.access.specs.declared.Physical.{Physical}
-use Rattle.access.specs.declared.Physical.the-variants.{Address, None}
 use Rattle.mmu.specs.declared.RawReply.{RawReply}
-use Rattle.mmu.specs.declared.RawReply.the-variants.{Answered, Refused}
+use Rattle.mmu.specs.declared.RawReply.the-variants.{Answered}
 
--- a register's number and its value
-pub data Put : Type 0 where
-  reg : (place value : ℕ) → Put
+-- a field's place and its value
+pub data Field : Type 0 where
+  reg : (place value : ℕ) → Field
 
 -- registers that are 0 but for some
-unfoldable pub registersWith : List Put → Registers
+unfoldable pub registersWith : List Field → Registers
 registersWith [] = zeroRegisters
 registersWith (reg place value ∷ rest) = put (registersWith rest) place value
 
--- the places, in the order of document 01's numbers; the last is exception value × 2 + write bit
-abbrev pub KSEG : ℕ
-KSEG = 0
+-- enabled, with a context and CTRL
+unfoldable pub enabled : (context ctrl : ℕ) → Registers
+enabled context ctrl = registersWith (reg ENABLE 1 ∷ reg CONTEXT context ∷ reg CTRL ctrl ∷ [])
 
-abbrev pub CTRL : ℕ
-CTRL = 1
-
-abbrev pub ENABLE : ℕ
-ENABLE = 2
-
-abbrev pub KBASE_LO : ℕ
-KBASE_LO = 3
-
-abbrev pub KBASE_HI : ℕ
-KBASE_HI = 4
-
-abbrev pub CONTEXT : ℕ
-CONTEXT = 5
-
-abbrev pub TEST : ℕ
-TEST = 9
+-- the same after an exception
+unfoldable pub enabledAfter : (context ctrl select vpn cause : ℕ) → Registers
+enabledAfter context ctrl select vpn cause =
+    registersWith
+    (reg ENABLE 1 ∷ reg CONTEXT context ∷ reg CTRL ctrl ∷ reg SELECT select ∷ reg TLB_HI (vpn * 64 + context) ∷ reg CAUSE cause ∷ [])
 
 -- a buffer just started, over numbers that were not 0
 unfoldable pub started : Buffer
@@ -58,8 +45,8 @@ unfoldable pub supervisor : (write : Bool) (address draw : ℕ) → Access
 supervisor write address draw = record { address = address; user = false; write = write; draw = draw }
 
 -- a reply that is no refusal
-unfoldable pub answered : (physical : Physical) (interrupt exception : Bool) (value : ℕ) (after : Registers) → RawReply
-answered physical interrupt exception value after =
+unfoldable pub replied : (physical : Physical) (interrupt exception : Bool) (value : ℕ) (after : Registers) → RawReply
+replied physical interrupt exception value after =
     Answered (record { physical = physical; interrupt = interrupt; exception = exception; value = value; registers = after })
 
 -- the entry of vpn 0x12342 under page_id 5, whose location is 2: valid, kernel, we as given, pfn 0x77
@@ -74,14 +61,13 @@ oneEntry valid kernel we = withSlot started 18 (entryWith valid kernel we)
 unfoldable pub twoEntries : Buffer
 twoEntries = withSlot (oneEntry true false true) 50 (entryWith true false true)
 
--- an address of that page: its vpn, and the offset 0x1abc
+-- that page's vpn, and an address of it, with the offset 0x1abc
+abbrev pub pageVpn : ℕ
+pageVpn = 0x12342
+
 abbrev pub pageByte : ℕ
-pageByte = 0x12342 * 8192 + 0x1abc
+pageByte = pageVpn * 8192 + 0x1abc
 
 -- what it becomes
 abbrev pub frameByte : ℕ
 frameByte = 0x77 * 8192 + 0x1abc
-
--- the vpn and page_id of that page in TLB_HI
-abbrev pub pageHi : ℕ
-pageHi = 0x12342 * 64 + 5

@@ -1,20 +1,20 @@
 -- Walks: each way one ends, at each level.
 use Prim.Native.Nat.{ℕ}
-use mathlib.Core.Bool.{Bool, true, false}
+use mathlib.Core.Bool.{true, false}
 use mathlib.Core.List.{List, [], _∷_}
 use lib.ListN.{set, replicate}
 use Rattle.page_table.specs.Walk.{walkPage}
 use Rattle.page_table.specs.declared.Walk.the-variants.{Leaf, Absent, Broken}
 use Rattle.examples.specs.Claims.{Example, _gives_}
 
--- a run of so many words: the root of identification 5 and its directory 1, whose first word names table 1, which begins at 1,024
+-- a run of so many words, 0 but for three: the root of identification 5, the first word of directory 1, and page 1's word in table 1
 unfoldable pub tables : (length root directory leaf : ℕ) → List ℕ
 tables length root directory leaf = set (set (set (replicate length 0) 5 root) 512 directory) 1025 leaf
 
 unfoldable pub good : List ℕ
 good = tables 2048 0x80000001 0x80000001 0xD0000123
 
--- the global tree is the same directory, its own, or broken
+-- the global root names the same directory, or is broken
 unfoldable pub shared : List ℕ
 shared = set good 63 0x80000001
 
@@ -23,7 +23,7 @@ globalBroken = set good 63 0x80000000
 
 unfoldable pub walks : List Example
 walks =
-    -- a leaf, at the very end of the run's last table's reach; absent at the leaf, the directory and the root
+    -- a leaf, in a table that ends at the run's end; absent at the leaf, the directory and the root
     (walkPage good 5 1 gives Leaf (record { global = false; word = 0xD0000123; index = 1025 }))
     ∷ (walkPage good 5 2 gives Absent (record { global = false; level = 3 }))
     ∷ (walkPage good 5 1024 gives Absent (record { global = false; level = 2 }))
@@ -51,4 +51,11 @@ walks =
     ∷ (walkPage shared 5 1 gives Leaf (record { global = true; word = 0xD0000123; index = 1025 }))
     ∷ (walkPage shared 4 2 gives Absent (record { global = false; level = 1 }))
     ∷ (walkPage globalBroken 5 1 gives Broken (record { global = true; level = 1 }))
+    ∷ (walkPage (set (set good 63 0x80000002) 1024 0x80000000) 5 1 gives Broken (record { global = true; level = 2 }))
+    ∷ (walkPage (set good 63 0x80000002) 5 1 gives Leaf (record { global = false; word = 0xD0000123; index = 1025 }))
+    ∷ (walkPage (set (set (tables 3072 0x80000001 0x80000001 0xD0000123) 63 0x80000003) 1536 0x80000002) 5 1
+    gives Leaf (record { global = false; word = 0xD0000123; index = 1025 }))
+    -- the last page: the last word of the directory and of the table
+    ∷ (walkPage (set (set (set (replicate 2048 0) 5 0x80000001) 1023 0x80000001) 2047 0xD0000123) 5 0x7FFFF
+    gives Leaf (record { global = false; word = 0xD0000123; index = 2047 }))
     ∷ []

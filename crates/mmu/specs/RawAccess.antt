@@ -17,6 +17,12 @@ rawRefusal r b a = refuseUnless (registersFit r) 1 (refuseUnless (bufferFits b) 
 unfoldable pub rawReply : Registers → Buffer → Access → RawReply
 rawReply r b a = byRefusal (rawRefusal r b a) (Answered (translate r b a)) (Refused (rawRefusal r b a) r)
 
+-- the number that a reply refuses with; 0 where it is no refusal
+unfoldable pub rawRefusalOf : RawReply → ℕ
+rawRefusalOf (Answered t) = 0
+rawRefusalOf (Refused number r) = number
+
 -- what the call promises. The buffer is lent for reading alone
 pub record RawAccessGives (r : Registers) (b : Buffer) (a : Access) (reply : RawReply) : Type 0 where
+  pub refusal-is : rawRefusalOf reply ≡ rawRefusal r b a
   pub reply-is : reply ≡ rawReply r b a

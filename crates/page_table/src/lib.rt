@@ -44,7 +44,7 @@ fn index_in(levels: u32, vpn: u32) -> usize
     }
 }
 
-// A present root or directory word names no stretch that the walk may go on to.
+// Whether a present root or directory word is broken: reserved bits, number 0, or a stretch that is not wholly inside the run.
 fn is_broken(length: usize, size: usize, word: u32) -> bool
     requires { ⌜ (1 ≤ size) × (size ≤ 1024) ⌝ }
     ensures { λ r. ⌜ r ≡ broken length size word ⌝ }

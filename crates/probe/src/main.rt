@@ -61,8 +61,8 @@ fn read_answer(reply: Reply) -> Answer {
     match outcome {
         Outcome::At(_) => answered(2, 0, 0, 0, registers),
         Outcome::Fault(_) => answered(2, 0, 0, 0, registers),
-        Outcome::Done(value) => answered(0, value, 0, 0, registers),
-        Outcome::Refused(number) => answered(1, number, 0, 0, registers),
+        Outcome::Done(value) => answered(0, value, reply.loads, 0, registers),
+        Outcome::Refused(number) => answered(1, number, reply.loads, 0, registers),
     }
 }
 

@@ -62,7 +62,8 @@ put-other r place other value d =
     (getD-set-other (toWords r) place other value 0 d)
 
 -- registers that fit still do after a value that fits its place
-pub put-fits : (r : Registers) (place value : ℕ) → registersFit r ≡ true → fitsAt place value ≡ true → registersFit (put r place value) ≡ true
+pub put-fits : (r : Registers) (place value : ℕ) → registersFit r ≡ true → fitsAt place value ≡ true
+    → registersFit (put r place value) ≡ true
 unfolding registersFit
 put-fits r place value h v = all-from (λ p. fitsAt p (field (put r place value) p)) 11 each
   where

@@ -1,9 +1,12 @@
 -- Laws of refusals, over any test, number and answer. Assumes nothing.
 use Prim.Native.Nat.{ℕ}
 use mathlib.Core.Path.{_≡_, refl, sym, _∙_}
-use mathlib.Core.Bool.{Bool, true, false, not}
-use borrow.Author.Tests.{not-true, not-false, eq-eqb, ne-eqb}
+use mathlib.Core.Bool.{Bool, true, false, cond, not}
+use lib.Dec.{eqb}
+use borrow.Author.Tests.{not-true, not-false, eq-eqb, ne-eqb, eqb-true}
 use Rattle.registers.specs.Refusals.{refuseUnless, byRefusal}
+use Rattle.registers.specs.Replies.{refusalOf, refused, done}
+use Rattle.registers.specs.declared.Registers.{Registers}
 
 -- a check that the code makes by a test t: it fails, or the later checks decide
 module _ (test t : Bool) (number later : ℕ) (tq : t ≡ test) where
@@ -30,3 +33,13 @@ module _ {A : Type 0} (number n : ℕ) (nq : n ≡ number) (accepted refused x :
   pub when-refused : (n ≡ 0 → ⊥) → x ≡ refused → x ≡ byRefusal number accepted refused
   unfolding byRefusal
   when-refused z q = q ∙ sym (rw (ne-eqb number 0 (λ y. z (nq ∙ y))))
+
+-- a call that succeeds or is refused replies with the number of its refusal, and with 0 exactly where it is accepted
+pub reply-refusal : (number value : ℕ) (after r : Registers)
+    → refusalOf ((byRefusal number (done after value) (refused r number)) .outcome) ≡ number
+unfolding byRefusal refusalOf
+reply-refusal number value after r = by-test (eqb number 0) refl
+  where
+    by-test : (b : Bool) → eqb number 0 ≡ b → refusalOf ((cond b (done after value) (refused r number)) .outcome) ≡ number
+    by-test true e = sym (eqb-true number 0 e)
+    by-test false e = refl

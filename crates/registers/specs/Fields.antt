@@ -2,7 +2,7 @@
 use Prim.Native.Nat.{ℕ, _^_}
 use mathlib.Core.Bool.{Bool}
 use mathlib.Core.List.{List, [], _∷_}
-use lib.ListN.{getD, set}
+use lib.ListN.{getD, set, replicate}
 use lib.Dec.{ltb}
 use Rattle.runs.specs.Counts.{all}
 use Rattle.registers.specs.declared.Registers.{Registers}
@@ -35,7 +35,25 @@ field r place = getD (toWords r) place 0
 unfoldable pub put : Registers → (place value : ℕ) → Registers
 put r place value = fromWords (set (toWords r) place value)
 
--- the places that a rule names
+-- the places; those of KSEG to test mode are document 01's register numbers
+abbrev pub KSEG : ℕ
+KSEG = 0
+
+abbrev pub CTRL : ℕ
+CTRL = 1
+
+abbrev pub ENABLE : ℕ
+ENABLE = 2
+
+abbrev pub KBASE_LO : ℕ
+KBASE_LO = 3
+
+abbrev pub KBASE_HI : ℕ
+KBASE_HI = 4
+
+abbrev pub CONTEXT : ℕ
+CONTEXT = 5
+
 abbrev pub SELECT : ℕ
 SELECT = 6
 
@@ -45,8 +63,15 @@ TLB_HI = 7
 abbrev pub TLB_LO : ℕ
 TLB_LO = 8
 
+abbrev pub TEST : ℕ
+TEST = 9
+
 abbrev pub CAUSE : ℕ
 CAUSE = 10
+
+-- how many there are
+abbrev pub FIELDS : ℕ
+FIELDS = 11
 
 -- how many bits each field has: KSEG 16, CTRL 3, ENABLE 1, KBASE_LO 32, KBASE_HI 32, CONTEXT 6, SELECT 6, TLB_HI 25 (vpn in
 -- bits 24 to 6, page_id in 5 to 0), TLB_LO 23 (entry bits 22 to 0), test mode 1, the cause 5
@@ -59,8 +84,8 @@ fitsAt place value = ltb value (2 ^ getD widths place 0)
 
 -- no register field exceeds its bits
 unfoldable pub registersFit : Registers → Bool
-registersFit r = all (λ place. fitsAt place (field r place)) 11
+registersFit r = all (λ place. fitsAt place (field r place)) FIELDS
 
 -- all registers 0
 unfoldable pub zeroRegisters : Registers
-zeroRegisters = fromWords []
+zeroRegisters = fromWords (replicate FIELDS 0)

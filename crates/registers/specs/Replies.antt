@@ -5,16 +5,17 @@ use Rattle.registers.specs.declared.Outcome.{Outcome}
 use Rattle.registers.specs.declared.Outcome.the-variants.{At, Fault, Done, Refused}
 use Rattle.registers.specs.declared.Reply.{Reply}
 
--- document 01's value of each outcome: the address, the fault value, the slots emptied or the value read, the refusal's number
-unfoldable pub outcomeValue : Outcome → ℕ
-outcomeValue (At address) = address
-outcomeValue (Fault value) = value
-outcomeValue (Done value) = value
-outcomeValue (Refused number) = number
+-- the number that an outcome refuses with; 0 where it is no refusal
+unfoldable pub refusalOf : Outcome → ℕ
+refusalOf (At address) = 0
+refusalOf (Fault value) = 0
+refusalOf (Done value) = 0
+refusalOf (Refused number) = number
 
 -- a refusal returns its number, count 0 and the registers received
 abbrev pub refused : Registers → (number : ℕ) → Reply
 refused r number = record { outcome = Refused number; loads = 0; registers = r }
 
+-- a call that succeeded, with its value: for a read the value read, else 0
 abbrev pub done : Registers → (value : ℕ) → Reply
 done r value = record { outcome = Done value; loads = 0; registers = r }

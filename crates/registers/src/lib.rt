@@ -99,9 +99,8 @@ pub fn field(r: Registers, place: u32) -> u32
     requires { ⌜ place < 11 ⌝ }
     ensures { λ v. ⌜ v ≡ field r place ⌝ }
 {
-    let words = to_words(r);
-    let index = place as usize;
-    words[index]
+    let fields = to_words(r);
+    fields[place as usize]
 }
 
 // The registers with another value at a place.
@@ -110,8 +109,7 @@ pub fn put(r: Registers, place: u32, value: u32) -> Registers
     ensures { λ q. ⌜ q ≡ put r place value ⌝ }
 {
     let mut words = to_words(r);
-    let at = place as usize;
-    words[at] = value;
+    words[place as usize] = value;
     from_words(words)
 }
 
@@ -120,8 +118,7 @@ pub fn fits_at(place: u32, value: u32) -> bool
     requires { ⌜ place < 11 ⌝ }
     ensures { λ b. ⌜ b ≡ fitsAt place value ⌝ }
 {
-    let row = place as usize;
-    (value as u64) < LIMITS[row]
+    (value as u64) < LIMITS[place as usize]
 }
 
 // No register field exceeds its bits.

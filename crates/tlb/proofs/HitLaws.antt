@@ -36,7 +36,7 @@ unfolding setHits fieldsAt
 set-told b inv-exc context vpn set slot e t p q h = sym (h ∙ rw (q, p))
 
 -- the set that a search answers is one of the four
-pub searched-lt : {b : Buffer} {inv-exc : Bool} {context vpn otherwise number set : ℕ} → Searched b inv-exc context vpn otherwise number set
+pub searched-lt : {b : Buffer} {inv-exc : Bool} {context vpn otherwise count set : ℕ} → Searched b inv-exc context vpn otherwise count set
     → otherwise < 4 → set < 4
 unfolding hitSet
 searched-lt {b} {inv-exc} {context} {vpn} {otherwise} s l =

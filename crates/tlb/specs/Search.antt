@@ -26,6 +26,6 @@ unfoldable pub hitSet : Buffer → (inv-exc : Bool) (context vpn otherwise : ℕ
 hitSet b inv-exc context vpn otherwise = lowest (setHits b inv-exc context vpn) 4 otherwise
 
 -- what a search answers
-pub record Searched (b : Buffer) (inv-exc : Bool) (context vpn otherwise number set : ℕ) : Type 0 where
-  pub number-is : number ≡ hitCount b inv-exc context vpn
+pub record Searched (b : Buffer) (inv-exc : Bool) (context vpn otherwise count set : ℕ) : Type 0 where
+  pub count-is : count ≡ hitCount b inv-exc context vpn
   pub set-is : set ≡ hitSet b inv-exc context vpn otherwise

@@ -9,7 +9,7 @@ ghost use Rattle.tlb.specs.Search.{Searched};
 
 // How many of the four slots hit, and the lowest set that does.
 pub struct Hits {
-    pub number: u32,
+    pub count: u32,
     pub set: u32,
 }
 
@@ -48,9 +48,9 @@ fn hit(inv_exc: bool, context: u32, vpn: u32, e: u64) -> bool
 // Looks at the page's slot in each set, from the last set down. With no hit the set answered is `otherwise`.
 pub fn search(buffer: &[u64], inv_exc: bool, context: u32, vpn: u32, otherwise: u32) -> Hits
     requires { ⌜ bufferFits (Buffer.Wide (now buffer)) ≡ true ⌝ }
-    ensures { λ r. ⌜ Searched (Buffer.Wide (now (buffer .entry))) «inv_exc» context vpn otherwise (r .number) (r .set) ⌝ }
+    ensures { λ r. ⌜ Searched (Buffer.Wide (now (buffer .entry))) «inv_exc» context vpn otherwise (r .count) (r .set) ⌝ }
 {
-    let mut number: u32 = 0;
+    let mut count: u32 = 0;
     let mut set = otherwise;
     let mut left: u32 = 4;
     while 0 < left {
@@ -58,9 +58,9 @@ pub fn search(buffer: &[u64], inv_exc: bool, context: u32, vpn: u32, otherwise: 
         let slot = entry::slot_of(left, vpn);
         let e = slots::slot_at(buffer, slot);
         if hit(inv_exc, context, vpn, e) {
-            number += 1;
+            count += 1;
             set = left;
         }
     }
-    Hits { number, set }
+    Hits { count, set }
 }

@@ -28,7 +28,7 @@ fn word_at(bytes: &[u8], at: usize) -> u32
 }
 
 // Writes as many bytes of a number as the run has.
-fn put(bytes: &mut [u8], x: u64)
+fn put_bytes(bytes: &mut [u8], x: u64)
     ensures { λ _. ⌜ now (bytes .exit) ≡ bytesOf (length (now (bytes .entry))) x ⌝ }
 {
     let mut rest = x;
@@ -62,7 +62,7 @@ pub fn encode32(words: &[u32], bytes: &mut [u8])
     while i < words.len() {
         let from = 4 * i;
         let to = from + 4;
-        put(&mut bytes[from..to], words[i] as u64);
+        put_bytes(&mut bytes[from..to], words[i] as u64);
         i += 1;
     }
 }
@@ -90,7 +90,7 @@ pub fn encode64(numbers: &[u64], bytes: &mut [u8])
     while i < numbers.len() {
         let from = 8 * i;
         let to = from + 8;
-        put(&mut bytes[from..to], numbers[i]);
+        put_bytes(&mut bytes[from..to], numbers[i]);
         i += 1;
     }
 }

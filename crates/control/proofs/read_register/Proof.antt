@@ -3,7 +3,7 @@ use mathlib.Core.Path.{sym, ap, _∙_}
 use Rattle.registers.proofs.RefusalLaws.{when-accepted, when-refused}
 use Rattle.registers.specs.Replies.{refused, done}
 use Rattle.control.specs.Reading.{readReply}
-use Rattle.control.proofs.CallLaws.{read-accepted}
+use Rattle.control.proofs.CallLaws.{read-gives, read-accepted}
 use borrow.Author.Needs.{needs}
 use Rattle.control.proofs.read_register.Statement.{statement}
 use Rattle.control.proofs.read_register.Tie as tie
@@ -16,10 +16,8 @@ refused-requires c κs = search needs
 
 returns : tie.Need-returns
 unfolding readReply
-returns c = record {
-  reply-is = when-refused _ _ (c .before .before .read-refusal .ensures) _ _ _ (c .before .if1 .taken)
-      (c .refused .ensures ∙ ap (refused _) (c .before .before .read-refusal .ensures));
-}
+returns c = read-gives _ _ _ (when-refused _ _ (c .before .before .read-refusal .ensures) _ _ _ (c .before .if1 .taken)
+    (c .refused .ensures ∙ ap (refused _) (c .before .before .read-refusal .ensures)))
 
 field-requires : tie.Need-field-requires
 field-requires c κs = omega (arith, read-accepted _ _ (sym (c .before .read-refusal .ensures) ∙ c .if1 .left))
@@ -29,10 +27,8 @@ done-requires c κs = search needs
 
 returns-2 : tie.Need-returns-2
 unfolding readReply
-returns-2 c = record {
-  reply-is = when-accepted _ _ (c .before .before .before .read-refusal .ensures) _ _ _
-      (c .before .before .if1 .left) (c .done .ensures ∙ ap (done _) (c .before .field .ensures));
-}
+returns-2 c = read-gives _ _ _ (when-accepted _ _ (c .before .before .before .read-refusal .ensures) _ _ _ (c .before .before .if1 .left)
+    (c .done .ensures ∙ ap (done _) (c .before .field .ensures)))
 
 pub read-register-spec : {M : Type 1} → statement M
 read-register-spec =

@@ -4,7 +4,7 @@ use Rattle.registers.proofs.RefusalLaws.{when-accepted, when-refused}
 use Rattle.registers.specs.Replies.{refused, done}
 use Rattle.registers.specs.declared.Registers.{Registers}
 use Rattle.control.specs.Writing.{writeReply, bufferAfterWrite}
-use Rattle.control.proofs.CallLaws.{write-accepted}
+use Rattle.control.proofs.CallLaws.{write-gives, write-accepted}
 use borrow.Author.Needs.{needs}
 use Rattle.control.proofs.write_register.Statement.{statement}
 use Rattle.control.proofs.write_register.Tie as tie
@@ -20,12 +20,9 @@ same-length c = search needs
 
 returns : tie.Need-returns
 unfolding writeReply bufferAfterWrite
-returns c = record {
-  reply-is = when-refused _ _ (c .before .before .write-refusal .ensures) _ _ _ (c .before .if1 .taken)
-      (c .refused .ensures ∙ ap (refused _) (c .before .before .write-refusal .ensures));
-  buffer-is = when-refused _ _
-      (c .before .before .write-refusal .ensures) _ _ _ (c .before .if1 .taken) refl;
-}
+returns c = write-gives _ _ _ _ _ _ (when-refused _ _ (c .before .before .write-refusal .ensures) _ _ _ (c .before .if1 .taken)
+    (c .refused .ensures ∙ ap (refused _) (c .before .before .write-refusal .ensures)))
+    (when-refused _ _ (c .before .before .write-refusal .ensures) _ _ _ (c .before .if1 .taken) refl)
 
 write-buffer-requires : tie.Need-write-buffer-requires
 write-buffer-requires c κs = let w = write-accepted _ _ _ _ (sym (c .before .before .write-refusal .ensures) ∙ c .before .if1 .left) in
@@ -43,14 +40,13 @@ same-length-2 c = search needs
 
 returns-2 : tie.Need-returns-2
 unfolding writeReply bufferAfterWrite
-returns-2 c = record {
-  reply-is = when-accepted _ _ (c .before .before .before .before .before .before .before .write-refusal .ensures) _
-      _ _ (c .before .before .before .before .before .before .if1 .left)
-      (c .done .ensures ∙ ap (λ (q : Registers). done q 0) (c .before .put .ensures));
-  buffer-is = when-accepted _ _
-      (c .before .before .before .before .before .before .before .write-refusal .ensures) _ _ _
-      (c .before .before .before .before .before .before .if1 .left) (c .before .before .before .before .write-buffer .ensures);
-}
+returns-2 c = write-gives _ _ _ _ _ _ (when-accepted _ _
+    (c .before .before .before .before .before .before .before .write-refusal .ensures) _ _ _
+    (c .before .before .before .before .before .before .if1 .left)
+    (c .done .ensures ∙ ap (λ (q : Registers). done q 0) (c .before .put .ensures)))
+    (when-accepted _ _ (c .before .before .before .before .before .before .before .write-refusal .ensures) _ _ _
+    (c .before .before .before .before .before .before .if1 .left)
+    (c .before .before .before .before .write-buffer .ensures))
 
 pub write-register-spec : {M : Type 1} → statement M
 write-register-spec =

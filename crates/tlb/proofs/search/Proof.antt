@@ -12,13 +12,13 @@ use Rattle.tlb.proofs.search.Statement.{statement}
 use Rattle.tlb.proofs.search.Tie as tie
 
 abbrev Inv-loop : tie.InvT-loop
-Inv-loop buffer inv-exc context vpn otherwise number₀ set₀ left₀ number set left =
+Inv-loop buffer inv-exc context vpn otherwise count₀ set₀ left₀ count set left =
     (bufferFits (Wide buffer) ≡ true)
     × Turn (setHits (Wide buffer) inv-exc context vpn) 4 (hitCount (Wide buffer) inv-exc context vpn)
-    (hitSet (Wide buffer) inv-exc context vpn otherwise) number set left
+    (hitSet (Wide buffer) inv-exc context vpn otherwise) count set left
 
 abbrev μ-loop : tie.MeasureT-loop
-μ-loop buffer inv-exc context vpn otherwise number₀ set₀ left₀ number set left = left
+μ-loop buffer inv-exc context vpn otherwise count₀ set₀ left₀ count set left = left
 
 loop-holds : tie.Need-loop-holds Inv-loop μ-loop
 unfolding hitCount hitSet
@@ -36,8 +36,8 @@ slot-at-requires c κs = (c .before .before .loop .inv .0, subst (λ (n : ℕ). 
 hit-requires : tie.Need-hit-requires Inv-loop μ-loop
 hit-requires c κs = tt
 
-add-number : tie.Need-add-number Inv-loop μ-loop
-add-number c = omega arith
+add-count : tie.Need-add-count Inv-loop μ-loop
+add-count c = omega arith
 
 loop-less : tie.Need-loop-less Inv-loop μ-loop
 loop-less c = omega arith
@@ -64,7 +64,7 @@ loop-again-2 c = (
 )
 
 returns : tie.Need-returns Inv-loop μ-loop
-returns c = let f = finish _ _ _ _ _ _ _ (c .before .loop .inv .1) (omega arith) in record { number-is = f .0; set-is = f .1 }
+returns c = let f = finish _ _ _ _ _ _ _ (c .before .loop .inv .1) (omega arith) in record { count-is = f .0; set-is = f .1 }
 
 pub search-spec : {M : Type 1} → statement M
 search-spec =
@@ -77,7 +77,7 @@ search-spec =
     slot-of-requires
     slot-at-requires
     hit-requires
-    add-number
+    add-count
     loop-less
     loop-again
     loop-less-2

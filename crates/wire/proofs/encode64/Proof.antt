@@ -23,23 +23,23 @@ mul-from c = omega arith
 add-to : tie.Need-add-to Inv-loop μ-loop
 add-to c = omega arith
 
-sub-put : tie.Need-sub-put Inv-loop μ-loop
-sub-put c = omega arith
+sub-put-bytes : tie.Need-sub-put-bytes Inv-loop μ-loop
+sub-put-bytes c = omega arith
 
-part-put-start : tie.Need-part-put-start Inv-loop μ-loop
-part-put-start c = omega arith
+part-put-bytes-start : tie.Need-part-put-bytes-start Inv-loop μ-loop
+part-put-bytes-start c = omega arith
 
-part-put-end : tie.Need-part-put-end Inv-loop μ-loop
-part-put-end c = omega arith
+part-put-bytes-end : tie.Need-part-put-bytes-end Inv-loop μ-loop
+part-put-bytes-end c = omega arith
 
-mul-put : tie.Need-mul-put Inv-loop μ-loop
-mul-put c = omega arith
+mul-put-bytes : tie.Need-mul-put-bytes Inv-loop μ-loop
+mul-put-bytes c = omega arith
 
-shared-slice-read-put : tie.Need-shared-slice-read-put Inv-loop μ-loop
-shared-slice-read-put c = omega arith
+shared-slice-read-put-bytes : tie.Need-shared-slice-read-put-bytes Inv-loop μ-loop
+shared-slice-read-put-bytes c = omega arith
 
-put-requires : tie.Need-put-requires Inv-loop μ-loop
-put-requires c κs = tt
+put-bytes-requires : tie.Need-put-bytes-requires Inv-loop μ-loop
+put-bytes-requires c κs = tt
 
 add-i : tie.Need-add-i Inv-loop μ-loop
 add-i c = omega arith
@@ -50,7 +50,7 @@ loop-less c = omega arith
 loop-again : tie.Need-loop-again Inv-loop μ-loop
 loop-again c =
     let turn = c .before .before .before .before .before in
-    encoded-more _ _ _ _ _ _ _ _ (turn .before .loop .inv) (turn .loop-test .taken) refl refl (c .before .before .put .ensures)
+    encoded-more _ _ _ _ _ _ _ _ (turn .before .loop .inv) (turn .loop-test .taken) refl refl (c .before .before .put-bytes .ensures)
 
 same-length : tie.Need-same-length Inv-loop μ-loop
 same-length c = omega arith
@@ -68,12 +68,12 @@ encode64-spec =
     loop-holds
     mul-from
     add-to
-    sub-put
-    part-put-start
-    part-put-end
-    mul-put
-    shared-slice-read-put
-    put-requires
+    sub-put-bytes
+    part-put-bytes-start
+    part-put-bytes-end
+    mul-put-bytes
+    shared-slice-read-put-bytes
+    put-bytes-requires
     add-i
     loop-less
     loop-again

@@ -4,8 +4,8 @@ use mathlib.Core.Path.{refl}
 use native.Mathlib.Omega.{arith}
 use lib.ListN.{length}
 use Rattle.wire.proofs.Turns.{Written, written-none, written-more, written-all}
-use Rattle.wire.proofs.put.Statement.{statement}
-use Rattle.wire.proofs.put.Tie as tie
+use Rattle.wire.proofs.put_bytes.Statement.{statement}
+use Rattle.wire.proofs.put_bytes.Tie as tie
 
 abbrev Inv-loop : tie.InvT-loop
 Inv-loop bytes₀ x rest₀ weight₀ bytes rest weight = Written (length bytes₀) x bytes rest weight
@@ -43,8 +43,8 @@ same-length c = c .before .loop .inv .long
 returns : tie.Need-returns Inv-loop μ-loop
 returns c = written-all _ _ _ _ _ (c .before .loop .inv) (omega arith)
 
-pub put-spec : {M : Type 1} → statement M
-put-spec =
+pub put-bytes-spec : {M : Type 1} → statement M
+put-bytes-spec =
     tie.close
     (tie.spec
     Inv-loop
