@@ -186,7 +186,8 @@ fn write_answer(a: Answer, numbers: &[u64], bytes: &mut [u8])
     io::write_all(1, bytes);
 }
 
-fn requested(w: [u32; 19]) -> Request {
+// The request that a head of nineteen words holds; a kind that is none where the input has ended.
+fn requested(got: bool, w: [u32; 19]) -> Request {
     let registers = registers::from_words([
         w[8],
         w[9],
@@ -201,7 +202,7 @@ fn requested(w: [u32; 19]) -> Request {
         w[18],
     ]);
     Request {
-        kind: w[0],
+        kind: if got { w[0] } else { 5 },
         first: w[1],
         second: w[2],
         third: w[3],
@@ -210,6 +211,13 @@ fn requested(w: [u32; 19]) -> Request {
         words: w[6],
         registers,
     }
+}
+
+fn read_request() -> Request {
+    let mut head = [0u8; 76];
+    let mut words = [0u32; 19];
+    let got = read_words(&mut head, &mut words);
+    requested(got, words)
 }
 
 // Reads so many table words, or none; answers how many are held then.
@@ -264,12 +272,7 @@ fn step(
     requires { ⌜ (length (now bytes) ≡ 640) × (length (now buffer) ≡ 80)
         × (length (now «table_bytes») ≡ 65536) × (length (now tables) ≡ 16384) ⌝ }
 {
-    let mut head = [0u8; 76];
-    let mut words = [0u32; 19];
-    if !read_words(&mut head, &mut words) {
-        return END;
-    }
-    let q = requested(words);
+    let q = read_request();
     if 4 < q.kind {
         return END;
     }

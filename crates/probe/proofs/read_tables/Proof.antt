@@ -5,7 +5,7 @@ use Rattle.probe.proofs.read_tables.Statement.{statement}
 use Rattle.probe.proofs.read_tables.Tie as tie
 
 returns : tie.Need-returns
-returns c = search needs
+returns c = tt
 
 mul-end : tie.Need-mul-end
 mul-end c = search needs
@@ -32,7 +32,7 @@ same-length-2 : tie.Need-same-length-2
 same-length-2 c = search needs
 
 returns-2 : tie.Need-returns-2
-returns-2 c = search needs
+returns-2 c = tt
 
 same-length-3 : tie.Need-same-length-3
 same-length-3 c = search needs
@@ -41,7 +41,7 @@ same-length-4 : tie.Need-same-length-4
 same-length-4 c = search needs
 
 returns-3 : tie.Need-returns-3
-returns-3 c = search needs
+returns-3 c = tt
 
 pub read-tables-spec : {M : Type 1} → statement M
 read-tables-spec =

@@ -8,7 +8,7 @@ cast-words : tie.Need-cast-words
 cast-words c = search needs
 
 returns : tie.Need-returns
-returns c = search needs
+returns c = tt
 
 read-numbers-requires : tie.Need-read-numbers-requires
 read-numbers-requires c κs = search needs
@@ -20,7 +20,7 @@ same-length-2 : tie.Need-same-length-2
 same-length-2 c = search needs
 
 returns-2 : tie.Need-returns-2
-returns-2 c = search needs
+returns-2 c = tt
 
 read-tables-requires : tie.Need-read-tables-requires
 read-tables-requires c κs = search needs
@@ -38,7 +38,7 @@ same-length-6 : tie.Need-same-length-6
 same-length-6 c = search needs
 
 returns-3 : tie.Need-returns-3
-returns-3 c = search needs
+returns-3 c = tt
 
 slice-reshare-prefix-call : tie.Need-slice-reshare-prefix-call
 slice-reshare-prefix-call c = search needs
@@ -76,7 +76,7 @@ same-length-10 : tie.Need-same-length-10
 same-length-10 c = search needs
 
 returns-4 : tie.Need-returns-4
-returns-4 c = search needs
+returns-4 c = tt
 
 pub serve-spec : {M : Type 1} → statement M
 serve-spec =

@@ -4,29 +4,17 @@ use borrow.Author.Needs.{needs}
 use Rattle.probe.proofs.step.Statement.{statement}
 use Rattle.probe.proofs.step.Tie as tie
 
-slice-aggregate-read-words : tie.Need-slice-aggregate-read-words
-slice-aggregate-read-words c = search needs
-
-slice-aggregate-read-words-2 : tie.Need-slice-aggregate-read-words-2
-slice-aggregate-read-words-2 c = search needs
-
-read-words-requires : tie.Need-read-words-requires
-read-words-requires c κs = search needs
+read-request-requires : tie.Need-read-request-requires
+read-request-requires c κs = search needs
 
 returns : tie.Need-returns
-returns c = search needs
-
-requested-requires : tie.Need-requested-requires
-requested-requires c κs = search needs
-
-returns-2 : tie.Need-returns-2
-returns-2 c = search needs
+returns c = tt
 
 cast-slots : tie.Need-cast-slots
 cast-slots c = search needs
 
-returns-3 : tie.Need-returns-3
-returns-3 c = search needs
+returns-2 : tie.Need-returns-2
+returns-2 c = tt
 
 mul-end : tie.Need-mul-end
 mul-end c = search needs
@@ -47,9 +35,8 @@ serve-requires : tie.Need-serve-requires
 serve-requires c κs = (
   simp length-take (omega arith),
   c .before .before .before .before .before .before .before .before .before .before .before .before
-      .before .before .before .before .before .before .before .pre .2,
-  c .before .before .before .before .before .before .before .before
-      .before .before .before .before .before .before .before .before .before .before .before .pre .3,
+      .before .pre .2,
+  c .before .before .before .before .before .before .before .before .before .before .before .before .before .pre .3,
 )
 
 same-length : tie.Need-same-length
@@ -64,21 +51,17 @@ same-length-3 c = search needs
 same-length-4 : tie.Need-same-length-4
 same-length-4 c = search needs
 
-returns-4 : tie.Need-returns-4
-returns-4 c = search needs
+returns-3 : tie.Need-returns-3
+returns-3 c = tt
 
 pub step-spec : {M : Type 1} → statement M
 step-spec =
     tie.close
     (tie.spec
-    slice-aggregate-read-words
-    slice-aggregate-read-words-2
-    read-words-requires
+    read-request-requires
     returns
-    requested-requires
-    returns-2
     cast-slots
-    returns-3
+    returns-2
     mul-end
     slice-relend-prefix-serve
     slice-aggregate-serve
@@ -89,4 +72,4 @@ step-spec =
     same-length-2
     same-length-3
     same-length-4
-    returns-4)
+    returns-3)
