@@ -69,8 +69,7 @@ segments =
     ∷ (rawReply (based 1 1) started (supervisor true 0xAFFFFFFF 0) gives replied (Address 0x9FFFFFFF) false false 0 (based 1 1))
     -- a segment whose bit is clear: the buffer decides
     ∷ (rawReply (based 1 0) started (supervisor false 0x40000000 1)
-    gives replied None true true 8
-    (put (put (put (based 1 0) SELECT 16) TLB_HI (0x20000 * 64)) CAUSE 16))
+    gives replied None true true 8 (put (put (put (based 1 0) SELECT 16) TLB_HI (0x20000 * 64)) CAUSE 16))
     -- with enable off the address is the virtual one, and test mode raises nothing in a linear segment
     ∷ (rawReply (based 0 0) started (supervisor true 0x3FFFFFFF 0) gives replied (Address 0x3FFFFFFF) false false 0 (based 0 0))
     ∷ (rawReply (based 0 1) started (supervisor true 0xAFFFFFFF 0) gives replied (Address 0xAFFFFFFF) false false 0 (based 0 1))

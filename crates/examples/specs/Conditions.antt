@@ -15,27 +15,27 @@ use Rattle.examples.specs.Setting.{pageVpn, pageByte, frameByte}
 unfoldable pub exceptions : List Example
 exceptions =
     -- write error: a write, without we, with we_exc on; each of the three is missing once
-    (rawReply (enabled 5 7) (oneEntry true false false) (user true pageByte 0) gives replied None true true 1
-    (enabledAfter 5 7 18 pageVpn 3))
-    ∷ (rawReply (enabled 5 7) (oneEntry true false false) (user false pageByte 0) gives replied (Address frameByte) false false 0
-    (enabled 5 7))
-    ∷ (rawReply (enabled 5 7) (oneEntry true false true) (user true pageByte 0) gives replied (Address frameByte) false false 0
-    (enabled 5 7))
-    ∷ (rawReply (enabled 5 6) (oneEntry true false false) (user true pageByte 0) gives replied (Address frameByte) false false 0
-    (enabled 5 6))
+    (rawReply (enabled 5 7) (oneEntry true false false) (user true pageByte 0)
+    gives replied None true true 1 (enabledAfter 5 7 18 pageVpn 3))
+    ∷ (rawReply (enabled 5 7) (oneEntry true false false) (user false pageByte 0)
+    gives replied (Address frameByte) false false 0 (enabled 5 7))
+    ∷ (rawReply (enabled 5 7) (oneEntry true false true) (user true pageByte 0)
+    gives replied (Address frameByte) false false 0 (enabled 5 7))
+    ∷ (rawReply (enabled 5 6) (oneEntry true false false) (user true pageByte 0)
+    gives replied (Address frameByte) false false 0 (enabled 5 6))
     -- we_exc alone is on: a kernel page raises the write error alone
-    ∷ (rawReply (enabled 5 1) (oneEntry true true false) (user true pageByte 0) gives replied None true true 1
-    (enabledAfter 5 1 18 pageVpn 3))
+    ∷ (rawReply (enabled 5 1) (oneEntry true true false) (user true pageByte 0)
+    gives replied None true true 1 (enabledAfter 5 1 18 pageVpn 3))
     -- access violation: not in supervisor mode, not with acc_exc off
-    ∷ (rawReply (enabled 5 7) (oneEntry true true true) (user true pageByte 0) gives replied None true true 2
-    (enabledAfter 5 7 18 pageVpn 5))
-    ∷ (rawReply (enabled 5 7) (oneEntry true true true) (supervisor true pageByte 0) gives replied (Address frameByte) false false 0
-    (enabled 5 7))
-    ∷ (rawReply (enabled 5 5) (oneEntry true true true) (user true pageByte 0) gives replied (Address frameByte) false false 0
-    (enabled 5 5))
+    ∷ (rawReply (enabled 5 7) (oneEntry true true true) (user true pageByte 0)
+    gives replied None true true 2 (enabledAfter 5 7 18 pageVpn 5))
+    ∷ (rawReply (enabled 5 7) (oneEntry true true true) (supervisor true pageByte 0)
+    gives replied (Address frameByte) false false 0 (enabled 5 7))
+    ∷ (rawReply (enabled 5 5) (oneEntry true true true) (user true pageByte 0)
+    gives replied (Address frameByte) false false 0 (enabled 5 5))
     -- invalid page alone
-    ∷ (rawReply (enabled 5 4) (oneEntry false true false) (user true pageByte 0) gives replied None true true 4
-    (enabledAfter 5 4 18 pageVpn 9))
+    ∷ (rawReply (enabled 5 4) (oneEntry false true false) (user true pageByte 0)
+    gives replied None true true 4 (enabledAfter 5 4 18 pageVpn 9))
     ∷ []
 
 -- the page's entry, global, of a kernel page
@@ -51,8 +51,8 @@ highBits = Wide (set (replicate 64 0) 18 (0xABCDE00000000000 + entryWith true fa
 unfoldable pub hits : List Example
 hits =
     -- another page_id misses, but a global entry hits, and the cause names the context
-    (rawReply (enabled 6 7) (oneEntry true true true) (user false pageByte 0) gives replied None true true 8
-    (enabledAfter 6 7 2 pageVpn 16))
+    (rawReply (enabled 6 7) (oneEntry true true true) (user false pageByte 0)
+    gives replied None true true 8 (enabledAfter 6 7 2 pageVpn 16))
     ∷ (rawReply (enabled 6 7) globalEntry (user false pageByte 0) gives replied None true true 2 (enabledAfter 6 7 18 pageVpn 4))
     -- another vpn15 misses, and so does another location
     ∷ (rawReply (enabled 5 7) globalEntry (user false (0x12352 * 8192) 0) gives replied None true true 8 (enabledAfter 5 7 2 0x12352 16))

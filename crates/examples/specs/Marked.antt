@@ -40,12 +40,12 @@ marked =
     gives replied None true true 8
     (registersWith (reg KSEG 0x1800 ∷ reg KBASE_HI 0x0007B000 ∷ reg ENABLE 1 ∷ reg TLB_HI (0x60000 * 64) ∷ reg CAUSE 16 ∷ [])))
     -- 9, 10, 11: all enables on, a kernel entry without we, a user's write; not valid; not valid with inv_exc off
-    ∷ (rawReply (enabled 5 7) (oneEntry true true false) (user true pageByte 2) gives replied None true true 3
-    (enabledAfter 5 7 18 pageVpn 7))
-    ∷ (rawReply (enabled 5 7) (oneEntry false true false) (user true pageByte 2) gives replied None true true 7
-    (enabledAfter 5 7 18 pageVpn 15))
-    ∷ (rawReply (enabled 5 3) (oneEntry false true false) (user true pageByte 2) gives replied None true true 8
-    (enabledAfter 5 3 34 pageVpn 17))
+    ∷ (rawReply (enabled 5 7) (oneEntry true true false) (user true pageByte 2)
+    gives replied None true true 3 (enabledAfter 5 7 18 pageVpn 7))
+    ∷ (rawReply (enabled 5 7) (oneEntry false true false) (user true pageByte 2)
+    gives replied None true true 7 (enabledAfter 5 7 18 pageVpn 15))
+    ∷ (rawReply (enabled 5 3) (oneEntry false true false) (user true pageByte 2)
+    gives replied None true true 8 (enabledAfter 5 3 34 pageVpn 17))
     -- 12: two matching valid entries
     ∷ (rawReply (enabled 5 7) twoEntries (user true pageByte 2) gives replied None true true 0 (enabledAfter 5 7 0 pageVpn 1))
     -- 13: the entry stored at slot 18 answers for vpn 12342 hex
