@@ -30,7 +30,7 @@ pub struct Translation {
 fn segment_of(address: u32) -> u32
     ensures { λ r. ⌜ (r ≡ segmentOf address) × (r < 16) ⌝ }
 {
-    address / 268435456 % 16
+    (address >> 28) % 16
 }
 
 // Supervisor mode, and the segment's bit in KSEG set.
@@ -64,14 +64,14 @@ fn linear_address(r: Registers, address: u32) -> u32
 fn inv_exc(ctrl: u32) -> bool
     ensures { λ r. ⌜ r ≡ invExc ctrl ⌝ }
 {
-    ctrl / 4 % 2 == 1
+    (ctrl >> 2) % 2 == 1
 }
 
 // CTRL's bit 1.
 fn acc_exc(ctrl: u32) -> bool
     ensures { λ r. ⌜ r ≡ accExc ctrl ⌝ }
 {
-    ctrl / 2 % 2 == 1
+    (ctrl >> 1) % 2 == 1
 }
 
 // CTRL's bit 0.

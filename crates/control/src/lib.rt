@@ -53,7 +53,7 @@ fn write_buffer(r: Registers, buffer: &mut [u64], number: u32, value: u32)
 {
     if number == 8 {
         let hi = r.tlb_hi;
-        let e = entry::join(hi / 1024 % 32768, hi % 64, value);
+        let e = entry::join((hi >> 10) % 32768, hi % 64, value);
         slots::put_slot(buffer, r.select, e);
     }
 }

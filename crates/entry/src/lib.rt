@@ -20,28 +20,28 @@ pub struct Entry {
 pub fn vpn15_of(e: u64) -> u32
     ensures { λ r. ⌜ r ≡ (unpack e) .vpn15 ⌝ }
 {
-    (e / 536870912 % 32768) as u32
+    ((e >> 29) % 32768) as u32
 }
 
 // Bits 28 to 23.
 pub fn page_id_of(e: u64) -> u32
     ensures { λ r. ⌜ r ≡ (unpack e) .«page_id» ⌝ }
 {
-    (e / 8388608 % 64) as u32
+    ((e >> 23) % 64) as u32
 }
 
 // Bit 22.
 pub fn is_global(e: u64) -> bool
     ensures { λ r. ⌜ r ≡ (unpack e) .global ⌝ }
 {
-    e / 4194304 % 2 == 1
+    (e >> 22) % 2 == 1
 }
 
 // Bit 21.
 pub fn is_valid(e: u64) -> bool
     ensures { λ r. ⌜ r ≡ (unpack e) .valid ⌝ }
 {
-    e / 2097152 % 2 == 1
+    (e >> 21) % 2 == 1
 }
 
 // All fields of a number. Bits 44 and up are ignored.
@@ -53,8 +53,8 @@ pub fn unpack(e: u64) -> Entry
         page_id: page_id_of(e),
         global: is_global(e),
         valid: is_valid(e),
-        kernel: e / 1048576 % 2 == 1,
-        we: e / 524288 % 2 == 1,
+        kernel: (e >> 20) % 2 == 1,
+        we: (e >> 19) % 2 == 1,
         pfn: (e % 524288) as u32,
     }
 }
@@ -108,7 +108,7 @@ pub fn empty_entry(set: u32) -> u64
 pub fn vpn_of(address: u32) -> u32
     ensures { λ r. ⌜ r ≡ vpnOf address ⌝ }
 {
-    address / 8192 % 524288
+    (address >> 13) % 524288
 }
 
 // The slot of a set in which a page's entry stands.

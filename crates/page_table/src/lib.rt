@@ -51,7 +51,7 @@ fn is_broken(length: usize, size: usize, word: u32) -> bool
 {
     let number = (word % 65536) as usize;
     let last = size * number + (size - 1);
-    (word / 65536 % 32768 != 0) | (number == 0) | (length <= last)
+    ((word >> 16) % 32768 != 0) | (number == 0) | (length <= last)
 }
 
 // The directory or table with a number: that very stretch of the lent words.
@@ -70,7 +70,7 @@ fn descend(words: &[u32], vpn: u32, global: bool, levels: u32, word: u32, index:
     ensures { λ r. ⌜ r ≡ walk.descend (now (words .entry)) vpn global levels index ⌝ }
 {
     let level = 3 - levels;
-    if word / 2147483648 % 2 != 1 {
+    if (word >> 31) % 2 != 1 {
         return Walk::Absent(Stop { global, level });
     }
     if levels == 0 {

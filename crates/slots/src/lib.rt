@@ -6,6 +6,9 @@ ghost use lib.ListN.{length, replicate};
 ghost use Rattle.slots.specs.Buffer.{Buffer, bufferFits, slotAt, withSlot};
 ghost use Rattle.slots.specs.Start.{startBuffer};
 
+// An entry has the 44 bits below this one.
+const BIT_44: u64 = 17592186044416;
+
 // The run is as long as the buffer has slots.
 pub fn buffer_fits(buffer: &[u64]) -> bool
     ensures { λ r. ⌜ r ≡ bufferFits (Buffer.Wide (now (buffer .entry))) ⌝ }
@@ -19,7 +22,7 @@ pub fn slot_at(buffer: &[u64], slot: u32) -> u64
     ensures { λ r. ⌜ r ≡ slotAt (Buffer.Wide (now (buffer .entry))) slot ⌝ }
 {
     let at = slot as usize;
-    buffer[at] % 17592186044416
+    buffer[at] % BIT_44
 }
 
 // Stores an entry at a slot. Bits 44 and up become zero.
@@ -28,7 +31,7 @@ pub fn put_slot(buffer: &mut [u64], slot: u32, e: u64)
     ensures { λ _. ⌜ Buffer.Wide (now (buffer .exit)) ≡ withSlot (Buffer.Wide (now (buffer .entry))) slot e ⌝ }
 {
     let index = slot as usize;
-    buffer[index] = e % 17592186044416;
+    buffer[index] = e % BIT_44;
 }
 
 // Every number of a part becomes e.
