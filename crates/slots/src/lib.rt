@@ -21,8 +21,7 @@ pub fn slot_at(buffer: &[u64], slot: u32) -> u64
     requires { ⌜ (bufferFits (Buffer.Wide (now buffer)) ≡ true) × (slot < 64) ⌝ }
     ensures { λ r. ⌜ r ≡ slotAt (Buffer.Wide (now (buffer .entry))) slot ⌝ }
 {
-    let at = slot as usize;
-    buffer[at] % BIT_44
+    buffer[slot as usize] % BIT_44
 }
 
 // Stores an entry at a slot. Bits 44 and up become zero.
@@ -30,8 +29,7 @@ pub fn put_slot(buffer: &mut [u64], slot: u32, e: u64)
     requires { ⌜ (bufferFits (Buffer.Wide (now buffer)) ≡ true) × (slot < 64) ⌝ }
     ensures { λ _. ⌜ Buffer.Wide (now (buffer .exit)) ≡ withSlot (Buffer.Wide (now (buffer .entry))) slot e ⌝ }
 {
-    let index = slot as usize;
-    buffer[index] = e % BIT_44;
+    buffer[slot as usize] = e % BIT_44;
 }
 
 // Every number of a part becomes e.

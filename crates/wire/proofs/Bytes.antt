@@ -7,21 +7,13 @@ use native.Mathlib.Numerals.{add-one}
 use native.Mathlib.Omega.{arith}
 use lib.ListN.{length, getD, length-append, List·getD-append}
 use lib.Seq.{getD-at}
-use Rattle.wire.specs.Wire.{bytesOf, numberAt, bytes32, bytes64, number64At}
+use Rattle.wire.specs.Wire.{bytesOf, numberAt, elementAt}
 
 -- w bytes are w
 pub wide : (w x : ℕ) → length (bytesOf w x) ≡ w
 unfolding bytesOf
 wide zero x = refl
 wide (suc w) x = length-append (bytesOf w (x / 256)) (x % 256 ∷ []) ∙ rw (wide w (x / 256)) (add-one w)
-
-pub wide32 : (x : ℕ) → length (bytes32 x) ≡ 4
-unfolding bytes32
-wide32 x = wide 4 x
-
-pub wide64 : (x : ℕ) → length (bytes64 x) ≡ 8
-unfolding bytes64
-wide64 x = wide 8 x
 
 -- where two runs have the same w bytes, they have the same number
 pub number-agrees : (a b : List ℕ) (p q w : ℕ) → ((j : ℕ) → j < w → getD a (p + j) 0 ≡ getD b (q + j) 0) → numberAt w a p ≡ numberAt w b q
@@ -39,11 +31,11 @@ number-joins bytes at v (suc w) =
     let p : n * (256 ^ w * 256) ≡ n * 256 ^ w * 256 = sym (mul-assoc n (256 ^ w) 256) in
     rw (add-suc, pow-suc, p, add-assoc at v w) (omega arith)
 
--- a 64-bit number from its two words
-pub halves64 : (bytes : List ℕ) (i high low : ℕ) → high ≡ numberAt 4 bytes (8 * i) → low ≡ numberAt 4 bytes (8 * i + 4)
-    → high * 4294967296 + low ≡ number64At bytes i
-unfolding number64At
-halves64 bytes i high low h l = rw (h, l) (number-joins bytes (8 * i) 4 4)
+-- a number of eight bytes from its two words
+pub halves : (bytes : List ℕ) (i high low : ℕ) → high ≡ numberAt 4 bytes (8 * i) → low ≡ numberAt 4 bytes (8 * i + 4)
+    → high * 4294967296 + low ≡ elementAt 8 bytes i
+unfolding elementAt
+halves bytes i high low h l = rw (h, l) (number-joins bytes (8 * i) 4 4)
 
 -- a number within w bytes is the number of its bytes
 pub number-of-bytes : (w x : ℕ) → x < 256 ^ w → numberAt w (bytesOf w x) 0 ≡ x

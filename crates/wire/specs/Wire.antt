@@ -14,28 +14,13 @@ unfoldable pub numberAt : (w : ℕ) (bytes : List ℕ) (at : ℕ) → ℕ
 numberAt zero bytes at = 0
 numberAt (suc w) bytes at = numberAt w bytes at * 256 + getD bytes (at + w) 0
 
--- 32-bit words: one word's bytes, the word of index i, a run's bytes, a run of n words
-unfoldable pub bytes32 : (x : ℕ) → List ℕ
-bytes32 x = bytesOf 4 x
+-- the number of index i in a run of numbers of w bytes each
+unfoldable pub elementAt : (w : ℕ) (bytes : List ℕ) (i : ℕ) → ℕ
+elementAt w bytes i = numberAt w bytes (w * i)
 
-unfoldable pub word32At : (bytes : List ℕ) (i : ℕ) → ℕ
-word32At bytes i = numberAt 4 bytes (4 * i)
+-- a run's bytes, w for each number; and the run of the first n numbers
+unfoldable pub encoded : (w : ℕ) (numbers : List ℕ) → List ℕ
+encoded w numbers = flat (bytesOf w) numbers
 
-unfoldable pub encoded32 : (words : List ℕ) → List ℕ
-encoded32 words = flat bytes32 words
-
-unfoldable pub decoded32 : (bytes : List ℕ) (n : ℕ) → List ℕ
-decoded32 bytes n = tabulate (word32At bytes) 0 n
-
--- 64-bit numbers, the same
-unfoldable pub bytes64 : (x : ℕ) → List ℕ
-bytes64 x = bytesOf 8 x
-
-unfoldable pub number64At : (bytes : List ℕ) (i : ℕ) → ℕ
-number64At bytes i = numberAt 8 bytes (8 * i)
-
-unfoldable pub encoded64 : (numbers : List ℕ) → List ℕ
-encoded64 numbers = flat bytes64 numbers
-
-unfoldable pub decoded64 : (bytes : List ℕ) (n : ℕ) → List ℕ
-decoded64 bytes n = tabulate (number64At bytes) 0 n
+unfoldable pub decoded : (w : ℕ) (bytes : List ℕ) (n : ℕ) → List ℕ
+decoded w bytes n = tabulate (elementAt w bytes) 0 n

@@ -2,7 +2,7 @@
 ghost use mathlib.Core.Path.{_≡_};
 ghost use Prim.Native.Nat.{_+_, _*_, _≤_, _<_};
 ghost use lib.ListN.{length};
-ghost use Rattle.wire.specs.Wire.{bytesOf, numberAt, encoded32, decoded32, encoded64, decoded64};
+ghost use Rattle.wire.specs.Wire.{bytesOf, decoded, encoded, numberAt};
 
 // A byte as a number.
 fn wide(x: u8) -> u32
@@ -44,7 +44,7 @@ fn put_bytes(bytes: &mut [u8], x: u64)
 // Fills the words from the front of the bytes.
 pub fn decode32(bytes: &[u8], words: &mut [u32])
     requires { ⌜ 4 * length (now words) ≤ length (now bytes) ⌝ }
-    ensures { λ _. ⌜ now (words .exit) ≡ decoded32 (now (bytes .entry)) (length (now (words .entry))) ⌝ }
+    ensures { λ _. ⌜ now (words .exit) ≡ decoded 4 (now (bytes .entry)) (length (now (words .entry))) ⌝ }
 {
     let mut i = 0;
     while i < words.len() {
@@ -56,7 +56,7 @@ pub fn decode32(bytes: &[u8], words: &mut [u32])
 // Writes the words' bytes.
 pub fn encode32(words: &[u32], bytes: &mut [u8])
     requires { ⌜ length (now bytes) ≡ 4 * length (now words) ⌝ }
-    ensures { λ _. ⌜ now (bytes .exit) ≡ encoded32 (now (words .entry)) ⌝ }
+    ensures { λ _. ⌜ now (bytes .exit) ≡ encoded 4 (now (words .entry)) ⌝ }
 {
     let mut i = 0;
     while i < words.len() {
@@ -70,7 +70,7 @@ pub fn encode32(words: &[u32], bytes: &mut [u8])
 // Fills the numbers from the front of the bytes.
 pub fn decode64(bytes: &[u8], numbers: &mut [u64])
     requires { ⌜ 8 * length (now numbers) ≤ length (now bytes) ⌝ }
-    ensures { λ _. ⌜ now (numbers .exit) ≡ decoded64 (now (bytes .entry)) (length (now (numbers .entry))) ⌝ }
+    ensures { λ _. ⌜ now (numbers .exit) ≡ decoded 8 (now (bytes .entry)) (length (now (numbers .entry))) ⌝ }
 {
     let mut i = 0;
     while i < numbers.len() {
@@ -84,7 +84,7 @@ pub fn decode64(bytes: &[u8], numbers: &mut [u64])
 // Writes the numbers' bytes.
 pub fn encode64(numbers: &[u64], bytes: &mut [u8])
     requires { ⌜ length (now bytes) ≡ 8 * length (now numbers) ⌝ }
-    ensures { λ _. ⌜ now (bytes .exit) ≡ encoded64 (now (numbers .entry)) ⌝ }
+    ensures { λ _. ⌜ now (bytes .exit) ≡ encoded 8 (now (numbers .entry)) ⌝ }
 {
     let mut i = 0;
     while i < numbers.len() {

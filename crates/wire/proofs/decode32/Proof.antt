@@ -3,13 +3,13 @@ use Prim.Native.Nat.{_-_}
 use mathlib.Core.Path.{refl}
 use native.Mathlib.Omega.{arith}
 use lib.ListN.{length}
-use Rattle.wire.specs.Wire.{word32At, decoded32}
+use Rattle.wire.specs.Wire.{elementAt, decoded}
 use Rattle.wire.proofs.Turns.{Filled, filled-none, filled-more, filled-all}
 use Rattle.wire.proofs.decode32.Statement.{statement}
 use Rattle.wire.proofs.decode32.Tie as tie
 
 abbrev Inv-loop : tie.InvT-loop
-Inv-loop bytes words₀ i₀ words i = Filled (word32At bytes) (length words₀) words i
+Inv-loop bytes words₀ i₀ words i = Filled (elementAt 4 bytes) (length words₀) words i
 
 abbrev μ-loop : tie.MeasureT-loop
 μ-loop bytes words₀ i₀ words i = length words₀ - i
@@ -36,14 +36,14 @@ loop-less : tie.Need-loop-less Inv-loop μ-loop
 loop-less c = omega arith
 
 loop-again : tie.Need-loop-again Inv-loop μ-loop
-unfolding word32At
+unfolding elementAt
 loop-again c = filled-more _ _ _ _ _ (c .before .before .loop .inv) (omega arith) (c .word-at .ensures .0)
 
 same-length : tie.Need-same-length Inv-loop μ-loop
 same-length c = c .before .loop .inv .long
 
 returns : tie.Need-returns Inv-loop μ-loop
-unfolding decoded32
+unfolding decoded
 returns c = filled-all _ _ _ _ (c .before .loop .inv) (omega arith)
 
 pub decode32-spec : {M : Type 1} → statement M

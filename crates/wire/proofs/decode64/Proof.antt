@@ -3,14 +3,14 @@ use Prim.Native.Nat.{_-_}
 use mathlib.Core.Path.{refl}
 use native.Mathlib.Omega.{arith}
 use lib.ListN.{length}
-use Rattle.wire.specs.Wire.{number64At, decoded64}
-use Rattle.wire.proofs.Bytes.{halves64}
+use Rattle.wire.specs.Wire.{elementAt, decoded}
+use Rattle.wire.proofs.Bytes.{halves}
 use Rattle.wire.proofs.Turns.{Filled, filled-none, filled-more, filled-all}
 use Rattle.wire.proofs.decode64.Statement.{statement}
 use Rattle.wire.proofs.decode64.Tie as tie
 
 abbrev Inv-loop : tie.InvT-loop
-Inv-loop bytes numbers₀ i₀ numbers i = Filled (number64At bytes) (length numbers₀) numbers i
+Inv-loop bytes numbers₀ i₀ numbers i = Filled (elementAt 8 bytes) (length numbers₀) numbers i
 
 abbrev μ-loop : tie.MeasureT-loop
 μ-loop bytes numbers₀ i₀ numbers i = length numbers₀ - i
@@ -59,14 +59,14 @@ loop-less c = omega arith
 
 loop-again : tie.Need-loop-again Inv-loop μ-loop
 loop-again c =
-    let whole = halves64 _ _ _ _ (c .before .word-at .ensures .0) (c .word-at2 .ensures .0) in
+    let whole = halves _ _ _ _ (c .before .word-at .ensures .0) (c .word-at2 .ensures .0) in
     filled-more _ _ _ _ _ (c .before .before .before .loop .inv) (omega arith) whole
 
 same-length : tie.Need-same-length Inv-loop μ-loop
 same-length c = c .before .loop .inv .long
 
 returns : tie.Need-returns Inv-loop μ-loop
-unfolding decoded64
+unfolding decoded
 returns c = filled-all _ _ _ _ (c .before .loop .inv) (omega arith)
 
 pub decode64-spec : {M : Type 1} → statement M

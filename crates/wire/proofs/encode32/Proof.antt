@@ -3,7 +3,7 @@ use Prim.Native.Nat.{_-_}
 use mathlib.Core.Path.{refl}
 use native.Mathlib.Omega.{arith}
 use lib.ListN.{length}
-use Rattle.wire.specs.Wire.{bytes32, encoded32}
+use Rattle.wire.specs.Wire.{encoded}
 use Rattle.wire.proofs.Turns.{Encoded, encoded-none, encoded-more, encoded-all}
 use Rattle.wire.proofs.encode32.Statement.{statement}
 use Rattle.wire.proofs.encode32.Tie as tie
@@ -59,7 +59,7 @@ same-length : tie.Need-same-length Inv-loop μ-loop
 same-length c = omega arith
 
 returns : tie.Need-returns Inv-loop μ-loop
-unfolding encoded32 bytes32
+unfolding encoded
 returns c = encoded-all _ _ _ _ _ (c .before .loop .inv) (omega arith)
 
 pub encode32-spec : {M : Type 1} → statement M

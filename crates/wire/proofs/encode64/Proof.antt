@@ -3,7 +3,7 @@ use Prim.Native.Nat.{_-_}
 use mathlib.Core.Path.{refl}
 use native.Mathlib.Omega.{arith}
 use lib.ListN.{length}
-use Rattle.wire.specs.Wire.{bytes64, encoded64}
+use Rattle.wire.specs.Wire.{encoded}
 use Rattle.wire.proofs.Turns.{Encoded, encoded-none, encoded-more, encoded-all}
 use Rattle.wire.proofs.encode64.Statement.{statement}
 use Rattle.wire.proofs.encode64.Tie as tie
@@ -56,7 +56,7 @@ same-length : tie.Need-same-length Inv-loop μ-loop
 same-length c = omega arith
 
 returns : tie.Need-returns Inv-loop μ-loop
-unfolding encoded64 bytes64
+unfolding encoded
 returns c = encoded-all _ _ _ _ _ (c .before .loop .inv) (omega arith)
 
 pub encode64-spec : {M : Type 1} → statement M
