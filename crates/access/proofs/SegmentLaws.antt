@@ -5,7 +5,6 @@ use native.Mathlib.Nat.{mod-lt}
 use lib.Dec.{lit<}
 use borrow.Author.Tests.{lt-ltb, le-ltb}
 use Rattle.runs.proofs.Bits.{bits-wide, bits-low}
-use Rattle.registers.specs.declared.Registers.{Registers}
 use Rattle.access.specs.Segments.{segmentOf, nibble, segmentBase, linearAddress}
 
 nibble-is : (n word : ℕ) → nibble n word ≡ word / 2 ^ (4 * n) % 16
@@ -23,7 +22,7 @@ unfolding segmentBase
 base-high lo hi segment l =
     (sym (rw (le-ltb segment 8 l) (nibble-is (segment - 8) hi)), mod-lt (hi / 2 ^ (4 * (segment - 8))) (lit< tt))
 
-pub linear-sum : (r : Registers) (address base : ℕ) → base ≡ segmentBase (r .«kbase_lo») (r .«kbase_hi») (segmentOf address)
-    → base * 268435456 + address % 268435456 ≡ linearAddress r address
+pub linear-sum : (lo hi address base : ℕ) → base ≡ segmentBase lo hi (segmentOf address)
+    → base * 268435456 + address % 268435456 ≡ linearAddress lo hi address
 unfolding linearAddress
-linear-sum r address base h = rw (h, bits-low 27 address)
+linear-sum lo hi address base h = rw (h, bits-low 27 address)

@@ -4,7 +4,6 @@ use mathlib.Core.Bool.{Bool, cond, not, _&&_}
 use lib.Dec.{ltb}
 use Rattle.runs.specs.Bits.{bits, flag}
 use Rattle.registers.specs.declared.Access.{Access}
-use Rattle.registers.specs.declared.Registers.{Registers}
 
 -- address bits 31 to 28
 unfoldable pub segmentOf : (address : ℕ) → ℕ
@@ -23,5 +22,5 @@ unfoldable pub segmentBase : (lo hi segment : ℕ) → ℕ
 segmentBase lo hi segment = cond (ltb segment 8) (nibble segment lo) (nibble (segment - 8) hi)
 
 -- bits 31 to 28 become the segment's base, the rest stays
-unfoldable pub linearAddress : Registers → (address : ℕ) → ℕ
-linearAddress r address = segmentBase (r .«kbase_lo») (r .«kbase_hi») (segmentOf address) * 2 ^ 28 + bits 27 0 address
+unfoldable pub linearAddress : (lo hi address : ℕ) → ℕ
+linearAddress lo hi address = segmentBase lo hi (segmentOf address) * 2 ^ 28 + bits 27 0 address

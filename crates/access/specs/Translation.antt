@@ -89,5 +89,5 @@ pageMapped r b a =
 unfoldable pub translate : Registers → Buffer → Access → Translation
 translate r b a =
     cond (inLinearSegment (r .kseg) a)
-    (noException r (cond (isSet (r .enable)) (linearAddress r (a .address)) (a .address)))
+    (noException r (cond (isSet (r .enable)) (linearAddress (r .«kbase_lo») (r .«kbase_hi») (a .address)) (a .address)))
     (cond (isSet (r .enable) || isSet (r .test)) (pageMapped r b a) (noException r (a .address)))

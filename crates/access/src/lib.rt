@@ -52,11 +52,11 @@ fn segment_base(lo: u32, hi: u32, segment: u32) -> u32
     (hi >> (4 * (segment - 8))) % 16
 }
 
-fn linear_address(r: Registers, address: u32) -> u32
-    ensures { λ p. ⌜ p ≡ linearAddress r address ⌝ }
+fn linear_address(lo: u32, hi: u32, address: u32) -> u32
+    ensures { λ p. ⌜ p ≡ linearAddress lo hi address ⌝ }
 {
     let segment = segment_of(address);
-    let base = segment_base(r.kbase_lo, r.kbase_hi, segment);
+    let base = segment_base(lo, hi, segment);
     base * 268435456 + address % 268435456
 }
 
@@ -196,7 +196,7 @@ pub fn translate(r: Registers, buffer: &[u64], a: Access) -> Translation
         if r.enable == 0 {
             return no_exception(r, a.address);
         }
-        let address = linear_address(r, a.address);
+        let address = linear_address(r.kbase_lo, r.kbase_hi, a.address);
         return no_exception(r, address);
     }
     if r.enable == 0 {

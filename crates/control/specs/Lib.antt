@@ -1,3 +1,4 @@
 pub mod Starting
 pub mod Writing
 pub mod Reading
+pub mod Setting

@@ -22,3 +22,7 @@ slotOf set vpn = 16 * set + location vpn
 -- the set of a slot
 unfoldable pub setOf : (slot : ℕ) → ℕ
 setOf slot = slot / 16
+
+-- the vpn of an entry with this vpn15 in a slot: its location is the slot's
+unfoldable pub vpnAt : (slot vpn15 : ℕ) → ℕ
+vpnAt slot vpn15 = 16 * vpn15 + slot % 16

@@ -1,5 +1,7 @@
 -- An entry: vpn15 in bits 43 to 29, page_id 28 to 23, global 22, valid 21, kernel 20, we 19, pfn 18 to 0.
 use Prim.Native.Nat.{ℕ, _+_, _*_, _^_, _<_}
+use mathlib.Core.Bool.{Bool, _&&_, Bool·beq}
+use lib.Dec.{eqb}
 use Rattle.runs.specs.Bits.{bits, flag, bit}
 use Rattle.entry.specs.declared.Entry.{Entry}
 
@@ -32,3 +34,16 @@ pub record EntryFits (f : Entry) : Type 0 where
   pub vpn15-fits : f .vpn15 < 2 ^ 15
   pub page-id-fits : f .«page_id» < 2 ^ 6
   pub pfn-fits : f .pfn < 2 ^ 19
+
+-- global, valid, kernel, we and pfn are the same
+unfoldable pub sameLow : Entry → Entry → Bool
+sameLow f g =
+    Bool·beq (f .global) (g .global)
+    && Bool·beq (f .valid) (g .valid)
+    && Bool·beq (f .kernel) (g .kernel)
+    && Bool·beq (f .we) (g .we)
+    && eqb (f .pfn) (g .pfn)
+
+-- all seven fields are the same
+unfoldable pub sameEntry : Entry → Entry → Bool
+sameEntry f g = eqb (f .vpn15) (g .vpn15) && eqb (f .«page_id») (g .«page_id») && sameLow f g

@@ -1,1 +1,2 @@
 pub mod RawAccess
+pub mod ServedAccess

@@ -3,9 +3,10 @@ ghost use mathlib.Core.Path.{_≡_};
 ghost use Prim.Native.Nat.{_+_, _*_, _≤_, _<_};
 ghost use lib.ListN.{length, getD};
 ghost use Rattle.page_table.specs.Stretches as stretches;
-ghost use Rattle.page_table.specs.Stretches.{stretchSize, indexIn, broken};
+ghost use Rattle.page_table.specs.Stretches.{stretchSize, indexIn, broken, tablesFit};
 ghost use Rattle.page_table.specs.Walk as walk;
 ghost use Rattle.page_table.specs.Walk.{walkTree, walkPage};
+ghost use Rattle.page_table.specs.Faults.{walkFault};
 
 // A leaf: whether it stands in the global tree, its word, and the word's index in the run.
 pub struct Found {
@@ -24,6 +25,14 @@ pub enum Walk {
     Leaf(Found),
     Absent(Stop),
     Broken(Stop),
+}
+
+// The run has 1,024 to 67,108,864 words, in multiples of 1,024.
+pub fn tables_fit(words: &[u32]) -> bool
+    ensures { λ r. ⌜ r ≡ tablesFit (now (words .entry)) ⌝ }
+{
+    let n = words.len();
+    (1024 <= n) & (n <= 67108864) & (n % 1024 == 0)
 }
 
 // How many words a stretch has, by the levels left below it: a table none, a directory one.
@@ -112,4 +121,15 @@ pub fn walk_page(words: &[u32], id: u32, vpn: u32) -> Walk
         return first;
     };
     walk_tree(words, vpn, false, id)
+}
+
+// The fault value of an access that still misses after this walk.
+pub fn walk_fault(found: Walk) -> u32
+    ensures { λ r. ⌜ r ≡ walkFault found ⌝ }
+{
+    match found {
+        Walk::Leaf(_) => 8,
+        Walk::Absent(_) => 16,
+        Walk::Broken(_) => 32,
+    }
 }

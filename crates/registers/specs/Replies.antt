@@ -16,6 +16,10 @@ refusalOf (Refused number) = number
 abbrev pub refused : Registers → (number : ℕ) → Reply
 refused r number = record { outcome = Refused number; loads = 0; registers = r }
 
--- a call that succeeded, with its value: for a read the value read, else 0
+-- a call that succeeded, with its value: for a read the value read, for a store the slots emptied, else 0
 abbrev pub done : Registers → (value : ℕ) → Reply
 done r value = record { outcome = Done value; loads = 0; registers = r }
+
+-- an access that was tried, with its outcome and the entries that it loaded
+abbrev pub answered : Registers → (outcome : Outcome) (loads : ℕ) → Reply
+answered r outcome loads = record { outcome = outcome; loads = loads; registers = r }

@@ -2,7 +2,7 @@
 ghost use mathlib.Core.Path.{_≡_};
 ghost use Prim.Native.Nat.{_<_};
 ghost use Rattle.registers.specs.Fields.{field, fitsAt, fromWords, put, registersFit, toWords, zeroRegisters};
-ghost use Rattle.registers.specs.Replies.{done, refused};
+ghost use Rattle.registers.specs.Replies.{answered, done, refused};
 
 // Numbers 0 to 9 of document 01, then exception value * 2 + write bit.
 // TLB_HI and the cause register share vpn and page_id: tlb_hi is vpn * 64 + page_id.
@@ -158,6 +158,16 @@ pub fn done(r: Registers, value: u32) -> Reply
     Reply {
         outcome: Outcome::Done(value),
         loads: 0,
+        registers: r,
+    }
+}
+
+pub fn answered(r: Registers, outcome: Outcome, loads: u32) -> Reply
+    ensures { λ s. ⌜ s ≡ answered r outcome loads ⌝ }
+{
+    Reply {
+        outcome,
+        loads,
         registers: r,
     }
 }

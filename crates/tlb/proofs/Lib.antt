@@ -1,1 +1,2 @@
 pub mod HitLaws
+pub mod Loads

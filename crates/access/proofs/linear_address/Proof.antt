@@ -18,7 +18,7 @@ add-result : tie.Need-add-result
 add-result c = search needs
 
 returns : tie.Need-returns
-returns c = linear-sum _ _ _ (c .segment-base .ensures .0 ∙ ap (segmentBase _ _) (c .before .segment-of .ensures .0))
+returns c = linear-sum _ _ _ _ (c .segment-base .ensures .0 ∙ ap (segmentBase _ _) (c .before .segment-of .ensures .0))
 
 pub linear-address-spec : {M : Type 1} → statement M
 linear-address-spec =
