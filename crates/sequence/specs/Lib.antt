@@ -1,0 +1,6 @@
+pub mod Reader
+pub mod Account
+pub mod Effects
+pub mod Calls
+pub mod Requests
+pub mod Demand3
