@@ -113,3 +113,15 @@ module _ (p : ℕ → Bool) where
       (λ (all : None n). omega (arith, count-none n all))
       (λ (s : Some n). omega (arith, count-one n (s .0) (s .1) (s .2) (λ j l t. u j (s .0) l (s .1) t (s .2))))
       (none-or-some n)
+
+-- tests that agree below the bound
+module _ (p q : ℕ → Bool) where
+  pub count-same : (n : ℕ) → ((k : ℕ) → k < n → p k ≡ q k) → count p n ≡ count q n
+  unfolding count
+  count-same zero h = refl
+  count-same (suc n) h = rw (count-same n (λ k l. h k (omega arith)), h n (lt-suc-self n))
+
+  pub lowest-same : (n d : ℕ) → ((k : ℕ) → k < n → p k ≡ q k) → lowest p n d ≡ lowest q n d
+  unfolding lowest
+  lowest-same zero d h = refl
+  lowest-same (suc n) d h = rw (h n (lt-suc-self n)) (lowest-same n (cond (q n) n d) (λ k l. h k (omega arith)))

@@ -1,2 +1,6 @@
 pub mod Invariant
 pub mod Tries
+pub mod Serving
+pub mod Following
+pub mod EffectLaws
+pub mod Taking
