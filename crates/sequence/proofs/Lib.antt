@@ -4,3 +4,5 @@ pub mod Serving
 pub mod Following
 pub mod EffectLaws
 pub mod Taking
+pub mod Refusing
+pub mod Theorem
