@@ -1,26 +1,39 @@
 -- Every example holds, computed from the definitions. Assumes nothing.
 use mathlib.Core.Path.{_≡_, refl}
 use Rattle.runs.specs.Counts.{all, count, lowest}
-use Rattle.entry.specs.Address.{vpnOf, offsetOf, location, vpn15Of, slotOf, setOf}
-use Rattle.entry.specs.Entry.{unpack, join, lowBits, pack}
+use Rattle.entry.specs.Address.{vpnOf, offsetOf, location, vpn15Of, slotOf, setOf, vpnAt}
+use Rattle.entry.specs.Entry.{unpack, join, lowBits, pack, sameLow, sameEntry}
 use Rattle.entry.specs.Empty.{emptyFields, emptyEntry}
 use Rattle.registers.specs.Fields.{toWords, fromWords, field, put, widths, fitsAt, registersFit, zeroRegisters}
 use Rattle.registers.specs.Refusals.{refuseUnless, byRefusal, drawFits}
-use Rattle.page_table.specs.Words.{present, reserved, number}
-use Rattle.page_table.specs.Stretches.{stretchSize, indexIn, inside, broken}
+use Rattle.page_table.specs.Words.{present, reserved, number, leafValid, leafKernel, leafWe, leafPfn}
+use Rattle.page_table.specs.Stretches.{tablesFit, stretchSize, indexIn, inside, broken}
 use Rattle.page_table.specs.Walk.{leafAt, stopAt, indexBelow, descend, walkTree, globalFirst, walkPage}
+use Rattle.page_table.specs.Faults.{walkFault}
 use Rattle.slots.specs.Buffer.{bufferFits, slotAt, withSlot}
 use Rattle.slots.specs.Start.{emptyFirst, startBuffer}
 use Rattle.tlb.specs.Hit.{validOrInvExc, vpn15Matches, idMatchesOrGlobal, matchesPage, hit}
 use Rattle.tlb.specs.Search.{fieldsAt, setHits, hitCount, hitSet}
+use Rattle.tlb.specs.Load.{setMatches, loadSlot, loadedBuffer}
 use Rattle.access.specs.Segments.{segmentOf, inLinearSegment, nibble, segmentBase, linearAddress}
 use Rattle.access.specs.Exceptions.{invExc, accExc, weExc, writeError, accessViolation, invalidPage, exceptionValue}
 use Rattle.access.specs.Translation.{pageAddress, isSet, noException, withCause, exceptionAddress, interrupts, exceptionAnswer, hitValue}
 use Rattle.access.specs.Translation.{onHit, byHitCount, foundSet, pageMapped, translate}
+use Rattle.store.specs.Leaf.{leafEntry}
+use Rattle.store.specs.Sweep.{isEmpty, agreesWithLeaf, agreesWithTables, kept, keptAt, sweptSlot, sweptFirst, swept, emptied}
+use Rattle.store.specs.Rewrite.{written}
+use Rattle.store.specs.TableStore.{indexFits, storeRefusal, storedWords, storeReply, bufferAfterStore, wordsAfterStore}
 use Rattle.mmu.specs.RawAccess.{rawRefusal, rawReply}
+use Rattle.mmu.specs.ServedAccess.{mayBeServed, servedRefusal, outcomeOf, triedReply, missed, loadedAt, registersLoaded, bufferLoaded}
+use Rattle.mmu.specs.ServedAccess.{afterMiss, bufferAfterMiss, firstTry, walkFor, accessReply, accessBuffer, servedReply, servedBuffer}
 use Rattle.control.specs.Starting.{startRefusal, startReply, startedBuffer}
 use Rattle.control.specs.Writing.{isRegister, writeRefusal, writtenEntry, writtenBuffer, writeReply, bufferAfterWrite}
 use Rattle.control.specs.Reading.{readRefusal, readReply}
+use Rattle.control.specs.Setting.{isGuarded, switchFits, settingRefusal, settingReply}
+use Rattle.sequence.specs.Calls.{refusal, accepted, effectOf, leftBy}
+use Rattle.sequence.specs.Requests.{callOn}
+use Rattle.sequence.specs.Demand3.{begun, systemAfter}
+use Rattle.sequence.specs.Asks.{callOf, eventOf, eventsOf, linesOf}
 use Rattle.examples.specs.Claims.{Values, allComputed, allOwed}
 use Rattle.examples.specs.Setting.{registersWith, enabled, enabledAfter, started, user, supervisor, replied, entryWith, oneEntry}
 use Rattle.examples.specs.Setting.{twoEntries}
@@ -29,6 +42,10 @@ use Rattle.examples.specs.Accesses.{row, rowAfter, kernelPage, openPage,
 use Rattle.examples.specs.Conditions.{exceptions, globalEntry, highBits, hits}
 use Rattle.examples.specs.Calls.{short, caused, calls, largest, fields}
 use Rattle.examples.specs.Walks.{tables, good, shared, globalBroken, walks}
+use Rattle.examples.specs.Served.{machine, agedEntry, aged, reading, served}
+use Rattle.examples.specs.Stores.{entryOf, agreeing, sweeps, numbers, stores, settings}
+use Rattle.examples.specs.Sequences.{lent, fresh, worked, workedLines, machineWith, readable, strays, strayLines, outcomes}
+use Rattle.examples.specs.Sequences.{outcomeLines, sequences}
 use Rattle.examples.specs.Examples.{examples}
 
 pub all-hold : allComputed examples ≡ allOwed examples
@@ -41,5 +58,11 @@ unfolding all count lowest vpnOf offsetOf location vpn15Of slotOf setOf unpack j
     rawRefusal rawReply startRefusal startReply startedBuffer isRegister writeRefusal writtenEntry writtenBuffer writeReply
     bufferAfterWrite readRefusal readReply Values allComputed allOwed registersWith enabled enabledAfter started user supervisor
     replied entryWith oneEntry twoEntries slotsOf linear selected marked row rowAfter kernelPage openPage rows based segments tooWide
-    refusals exceptions globalEntry highBits hits short caused calls largest fields tables good shared globalBroken walks examples
+    refusals exceptions globalEntry highBits hits short caused calls largest fields tables good shared globalBroken walks vpnAt sameLow sameEntry leafValid leafKernel
+    leafWe leafPfn tablesFit walkFault setMatches loadSlot loadedBuffer leafEntry isEmpty agreesWithLeaf agreesWithTables kept keptAt
+    sweptSlot sweptFirst swept emptied written indexFits storeRefusal storedWords storeReply bufferAfterStore wordsAfterStore mayBeServed
+    servedRefusal outcomeOf triedReply missed loadedAt registersLoaded bufferLoaded afterMiss bufferAfterMiss firstTry walkFor accessReply
+    accessBuffer servedReply servedBuffer isGuarded switchFits settingRefusal settingReply refusal accepted effectOf leftBy callOn begun
+    systemAfter callOf eventOf eventsOf linesOf machine agedEntry aged reading served entryOf agreeing sweeps numbers stores settings lent
+    fresh worked workedLines machineWith readable strays strayLines outcomes outcomeLines sequences examples
 all-hold = refl

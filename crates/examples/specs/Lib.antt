@@ -1,8 +1,11 @@
 pub mod Claims
 pub mod Setting
+pub mod Walks
+pub mod Served
+pub mod Stores
+pub mod Sequences
 pub mod Marked
 pub mod Accesses
 pub mod Conditions
 pub mod Calls
-pub mod Walks
 pub mod Examples

@@ -5,13 +5,18 @@ use mathlib.Core.List.{List, [], _∷_}
 use Rattle.entry.specs.Address.{slotOf}
 use Rattle.registers.specs.Fields.{KSEG, ENABLE, KBASE_HI, CONTEXT, SELECT, TLB_HI, TLB_LO, CAUSE}
 use Rattle.registers.specs.declared.Registers.{Registers}
+use Rattle.page_table.specs.Walk.{walkPage}
+use Rattle.page_table.specs.declared.Walk.the-variants.{Leaf}
 use Rattle.slots.specs.Buffer.{slotAt}
 use Rattle.access.specs.declared.Physical.the-variants.{Address, None}
 use Rattle.control.specs.Writing.{bufferAfterWrite}
 use Rattle.mmu.specs.RawAccess.{rawReply}
+use Rattle.mmu.specs.ServedAccess.{servedBuffer}
 use Rattle.examples.specs.Claims.{Example, _gives_}
 use Rattle.examples.specs.Setting.{reg, registersWith, enabled, enabledAfter, started, user, supervisor, replied}
 use Rattle.examples.specs.Setting.{oneEntry, twoEntries, pageVpn, pageByte, frameByte}
+use Rattle.examples.specs.Walks.{good}
+use Rattle.examples.specs.Served.{machine, reading}
 
 unfoldable pub slotsOf : (vpn : ℕ) → List ℕ
 slotsOf vpn = slotOf 0 vpn ∷ slotOf 1 vpn ∷ slotOf 2 vpn ∷ slotOf 3 vpn ∷ []
@@ -32,6 +37,9 @@ marked =
     -- 3, 4: the empty slots 16 and 63
     ∷ (slotAt started 16 gives 1_065_353_216)
     ∷ (slotAt started 63 gives 2_139_095_040)
+    -- 5: an own-tree leaf D0000123 for vpn 1, identification 5, as a served access loads it
+    ∷ (walkPage good 5 1 gives Leaf (record { global = false; word = 0xD0000123; index = 1025 }))
+    ∷ (slotAt (servedBuffer (machine (enabled 5 7) started good) reading) 33 gives 0x02A80123)
     -- 6, 7: linear segments
     ∷ (rawReply linear started (supervisor false 0xC0001234 0) gives replied (Address 0x70001234) false false 0 linear)
     ∷ (rawReply linear started (supervisor false 0xB0000010 0) gives replied (Address 0xB0000010) false false 0 linear)

@@ -4,3 +4,4 @@ pub mod Effects
 pub mod Calls
 pub mod Requests
 pub mod Demand3
+pub mod Asks
