@@ -7,7 +7,7 @@ use Rattle.entry.specs.Empty.{emptyFields, emptyEntry}
 use Rattle.registers.specs.Fields.{toWords, fromWords, field, put, widths, fitsAt, registersFit, zeroRegisters}
 use Rattle.registers.specs.Refusals.{refuseUnless, byRefusal, drawFits}
 use Rattle.page_table.specs.Words.{present, reserved, number, leafValid, leafKernel, leafWe, leafPfn}
-use Rattle.page_table.specs.Stretches.{tablesFit, stretchSize, indexIn, inside, broken}
+use Rattle.page_table.specs.Stretches.{lengthFits, tablesFit, stretchSize, indexIn, inside, broken}
 use Rattle.page_table.specs.Walk.{leafAt, stopAt, indexBelow, descend, walkTree, globalFirst, walkPage}
 use Rattle.page_table.specs.Faults.{walkFault}
 use Rattle.slots.specs.Buffer.{bufferFits, slotAt, withSlot}
@@ -44,7 +44,7 @@ use Rattle.examples.specs.Calls.{short, caused, calls, largest, fields}
 use Rattle.examples.specs.Walks.{tables, good, shared, globalBroken, walks}
 use Rattle.examples.specs.Served.{machine, agedEntry, aged, reading, served}
 use Rattle.examples.specs.Stores.{entryOf, agreeing, sweeps, numbers, stores, settings}
-use Rattle.examples.specs.Sequences.{lent, fresh, worked, workedLines, machineWith, readable, strays, strayLines, outcomes}
+use Rattle.examples.specs.Sequences.{lent, fresh, worked, workedLines, strays, strayLines, outcomes}
 use Rattle.examples.specs.Sequences.{outcomeLines, sequences}
 use Rattle.examples.specs.Examples.{examples}
 
@@ -59,10 +59,10 @@ unfolding all count lowest vpnOf offsetOf location vpn15Of slotOf setOf unpack j
     bufferAfterWrite readRefusal readReply Values allComputed allOwed registersWith enabled enabledAfter started user supervisor
     replied entryWith oneEntry twoEntries slotsOf linear selected marked row rowAfter kernelPage openPage rows based segments tooWide
     refusals exceptions globalEntry highBits hits short caused calls largest fields tables good shared globalBroken walks vpnAt sameLow sameEntry leafValid leafKernel
-    leafWe leafPfn tablesFit walkFault setMatches loadSlot loadedBuffer leafEntry isEmpty agreesWithLeaf agreesWithTables kept keptAt
+    leafWe leafPfn lengthFits tablesFit walkFault setMatches loadSlot loadedBuffer leafEntry isEmpty agreesWithLeaf agreesWithTables kept keptAt
     sweptSlot sweptFirst swept emptied written indexFits storeRefusal storedWords storeReply bufferAfterStore wordsAfterStore mayBeServed
     servedRefusal outcomeOf triedReply missed loadedAt registersLoaded bufferLoaded afterMiss bufferAfterMiss firstTry walkFor accessReply
     accessBuffer servedReply servedBuffer isGuarded switchFits settingRefusal settingReply refusal accepted effectOf leftBy callOn begun
     systemAfter callOf eventOf eventsOf linesOf machine agedEntry aged reading served entryOf agreeing sweeps numbers stores settings lent
-    fresh worked workedLines machineWith readable strays strayLines outcomes outcomeLines sequences examples
+    fresh worked workedLines strays strayLines outcomes outcomeLines sequences examples
 all-hold = refl

@@ -7,10 +7,8 @@ use Rattle.registers.specs.Fields.{CTRL, ENABLE, KSEG, CONTEXT, SELECT, TEST}
 use Rattle.registers.specs.declared.Access.{Access}
 use Rattle.registers.specs.declared.Outcome.{Outcome}
 use Rattle.registers.specs.declared.Outcome.the-variants.{At, Fault, Done, Refused}
-use Rattle.registers.specs.declared.Registers.{Registers}
 use Rattle.slots.specs.Buffer.{Buffer}
 use Rattle.slots.specs.Buffer.Buffer.{Wide}
-use Rattle.store.specs.Machine.{Machine}
 use Rattle.control.specs.Starting.{startReply, startedBuffer}
 use Rattle.sequence.specs.Calls.Call.{ServedAccess, TableStore, GuardedSetting}
 use Rattle.sequence.specs.Requests.Request.{ToAccess, ToStore, ToSet}
@@ -20,6 +18,7 @@ use Rattle.sequence.specs.Asks.Ask.{Now, Stray}
 use Rattle.examples.specs.Claims.{Example, _gives_}
 use Rattle.examples.specs.Setting.{reg, registersWith, enabled, started, user, supervisor}
 use Rattle.examples.specs.Walks.{good}
+use Rattle.examples.specs.Served.{machine, reading}
 
 -- a start over a lent buffer that was not 0, and so many table words, all 0
 unfoldable pub lent : Buffer
@@ -68,27 +67,21 @@ workedLines =
     ∷ []
 
 -- calls that were handed something else than the machine: each number for each call that can give it
-unfoldable pub machineWith : Registers → Buffer → (words : List ℕ) → Machine
-machineWith r b words = record { registers = r; buffer = b; words = words }
-
-unfoldable pub readable : Access
-readable = user false 0x2ABC 2
-
 unfoldable pub strays : List Ask
 strays =
     -- 1: SELECT has six bits
-    Stray (ServedAccess (machineWith (registersWith (reg SELECT 64 ∷ [])) started good) readable)
-    ∷ Stray (TableStore (machineWith (registersWith (reg SELECT 64 ∷ [])) started good) (record { index = 0; value = 0 }))
+    Stray (ServedAccess (machine (registersWith (reg SELECT 64 ∷ [])) started good) reading)
+    ∷ Stray (TableStore (machine (registersWith (reg SELECT 64 ∷ [])) started good) (record { index = 0; value = 0 }))
     ∷ Stray (GuardedSetting (registersWith (reg SELECT 64 ∷ [])) ENABLE 0)
     -- 2: 63 slots
-    ∷ Stray (ServedAccess (machineWith (enabled 5 7) (Wide (replicate 63 0)) good) readable)
-    ∷ Stray (TableStore (machineWith (enabled 5 7) (Wide (replicate 63 0)) good) (record { index = 0; value = 0 }))
+    ∷ Stray (ServedAccess (machine (enabled 5 7) (Wide (replicate 63 0)) good) reading)
+    ∷ Stray (TableStore (machine (enabled 5 7) (Wide (replicate 63 0)) good) (record { index = 0; value = 0 }))
     -- 3: 1,023 words
-    ∷ Stray (ServedAccess (machineWith (enabled 5 7) started (replicate 1023 0)) readable)
-    ∷ Stray (TableStore (machineWith (enabled 5 7) started (replicate 1023 0)) (record { index = 0; value = 0 }))
+    ∷ Stray (ServedAccess (machine (enabled 5 7) started (replicate 1023 0)) reading)
+    ∷ Stray (TableStore (machine (enabled 5 7) started (replicate 1023 0)) (record { index = 0; value = 0 }))
     -- 5: test mode, and context 63
-    ∷ Stray (ServedAccess (machineWith (registersWith (reg TEST 1 ∷ [])) started good) readable)
-    ∷ Stray (ServedAccess (machineWith (enabled 63 7) started good) readable)
+    ∷ Stray (ServedAccess (machine (registersWith (reg TEST 1 ∷ [])) started good) reading)
+    ∷ Stray (ServedAccess (machine (enabled 63 7) started good) reading)
     ∷ []
 
 unfoldable pub strayLines : List Line

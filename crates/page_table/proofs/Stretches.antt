@@ -11,11 +11,11 @@ use native.Mathlib.Omega.{arith}
 use borrow.Author.Tests.{leb-true, leb-false, le-leb, lt-leb, not-false}
 use Rattle.runs.proofs.Bools.{both}
 use Rattle.page_table.specs.Words.{reserved, number}
-use Rattle.page_table.specs.Stretches.{tablesFit, stretchSize, indexIn, stretch, inside, broken}
+use Rattle.page_table.specs.Stretches.{lengthFits, tablesFit, stretchSize, indexIn, stretch, inside, broken}
 
 -- a run that passes refusal 3's test has all the roots, and its indexes fit 26 bits
 pub fit-bounds : (words : List ℕ) → tablesFit words ≡ true → (1024 ≤ length words) × (length words ≤ 67108864)
-unfolding tablesFit
+unfolding tablesFit lengthFits
 fit-bounds words h =
     let l = both (leb 1024 (length words) && leb (length words) 67108864) _ h in
     let m = both (leb 1024 (length words)) _ (l .0) in

@@ -7,8 +7,11 @@ use lib.Dec.{eqb, leb}
 use Rattle.page_table.specs.Words.{reserved, number}
 
 -- the run passes the test of refusal 3: not below 1,024 words, not above 67,108,864, a multiple of 1,024
+unfoldable pub lengthFits : (length : ℕ) → Bool
+lengthFits length = leb 1024 length && leb length 67108864 && eqb (length % 1024) 0
+
 unfoldable pub tablesFit : (words : List ℕ) → Bool
-tablesFit words = leb 1024 (length words) && leb (length words) 67108864 && eqb (length words % 1024) 0
+tablesFit words = lengthFits (length words)
 
 -- "Directory d is words 512d to 512d+511; table t is words 1024t to 1024t+1023."
 unfoldable pub stretchSize : (levels : ℕ) → ℕ
