@@ -1,3 +1,4 @@
 pub mod SegmentLaws
 pub mod ExceptionLaws
 pub mod AccessLaws
+pub mod Keeping
