@@ -1,6 +1,6 @@
 -- What a load leaves: the stored entry at its slot, every other slot as it was. Assumes nothing.
 use Prim.Native.Nat.{ℕ, _%_, _^_, _<_}
-use mathlib.Core.Path.{_≡_, ap, sym, _∙_, fun-ext}
+use mathlib.Core.Path.{_≡_, ap, _∙_, fun-ext}
 use mathlib.Core.Logic.{_≢_}
 use mathlib.Core.Bool.{Bool, true}
 use Rattle.runs.specs.Counts.{lowest}

@@ -1,36 +1,34 @@
+use mathlib.Core.Path.{sym, ap, _∙_}
+use Rattle.registers.proofs.RefusalLaws.{when-accepted, when-refused}
+use Rattle.registers.specs.Replies.{refused, done}
+use Rattle.registers.specs.declared.Registers.{Registers}
+use Rattle.control.specs.Setting.{settingReply}
+use Rattle.control.proofs.CallLaws.{setting-gives, setting-accepted}
 use borrow.Author.Needs.{needs}
 use Rattle.control.proofs.guarded_setting.Statement.{statement}
 use Rattle.control.proofs.guarded_setting.Tie as tie
-use Rattle.control.proofs.guarded_setting.Reads as reads
-use Rattle.control.proofs.guarded_setting.Lts as lts
-use Rattle.control.proofs.setting_refusal.Reads as setting-refusal-reads
-use Rattle.registers.proofs.done.Reads as done-reads
-use Rattle.registers.proofs.put.Reads as put-reads
-use Rattle.registers.proofs.refused.Reads as refused-reads
 
--- src/lib.rt:135:9
 setting-refusal-requires : tie.Need-setting-refusal-requires
 setting-refusal-requires c κs = search needs
 
--- src/lib.rt:137:9
 refused-requires : tie.Need-refused-requires
 refused-requires c κs = search needs
 
--- src/lib.rt:137:9
 returns : tie.Need-returns
-returns c = ?
+unfolding settingReply
+returns c = setting-gives _ _ _ _ (when-refused _ _ (c .before .before .setting-refusal .ensures) _ _ _ (c .before .if1 .taken)
+    (c .refused .ensures ∙ ap (refused _) (c .before .before .setting-refusal .ensures)))
 
--- src/lib.rt:139:9
 put-requires : tie.Need-put-requires
-put-requires c κs = ?
+put-requires c κs = setting-accepted _ _ _ (sym (c .before .setting-refusal .ensures) ∙ c .if1 .left)
 
--- src/lib.rt:140:5
 done-requires : tie.Need-done-requires
 done-requires c κs = search needs
 
--- src/lib.rt:132:1
 returns-2 : tie.Need-returns-2
-returns-2 c = ?
+unfolding settingReply
+returns-2 c = setting-gives _ _ _ _ (when-accepted _ _ (c .before .before .before .setting-refusal .ensures) _ _ _ (c .before .before .if1 .left)
+    (c .done .ensures ∙ ap (λ (q : Registers). done q 0) (c .before .put .ensures)))
 
 pub guarded-setting-spec : {M : Type 1} → statement M
 guarded-setting-spec =

@@ -1,48 +1,51 @@
+use mathlib.Core.Path.{refl}
+use Rattle.registers.proofs.RefusalLaws.{refuse-here, refuse-later}
+use Rattle.control.specs.Setting.{settingRefusal}
+use Rattle.control.proofs.CallLaws.{guarded-below}
 use borrow.Author.Needs.{needs}
 use Rattle.control.proofs.setting_refusal.Statement.{statement}
 use Rattle.control.proofs.setting_refusal.Tie as tie
-use Rattle.control.proofs.setting_refusal.Reads as reads
-use Rattle.control.proofs.setting_refusal.Lts as lts
-use Rattle.control.proofs.is_guarded.Reads as is-guarded-reads
-use Rattle.control.proofs.switch_fits.Reads as switch-fits-reads
-use Rattle.registers.proofs.fits_at.Reads as fits-at-reads
-use Rattle.registers.proofs.registers_fit.Reads as registers-fit-reads
 
--- src/lib.rt:116:9
 registers-fit-requires : tie.Need-registers-fit-requires
 registers-fit-requires c κs = search needs
 
--- src/lib.rt:117:9
 returns : tie.Need-returns
-returns c = ?
+unfolding settingRefusal
+returns c = refuse-here _ _ _ _ (c .before .registers-fit .ensures) (c .if1 .taken)
 
--- src/lib.rt:119:9
 switch-fits-requires : tie.Need-switch-fits-requires
 switch-fits-requires c κs = search needs
 
--- src/lib.rt:120:9
 returns-2 : tie.Need-returns-2
-returns-2 c = ?
+unfolding settingRefusal
+returns-2 c = refuse-later _ _ _ _ (c .before .before .before .registers-fit .ensures) _ (c .before .before .if1 .left)
+    (refuse-here _ _ _ _ (c .before .switch-fits .ensures) (c .if2 .taken))
 
--- src/lib.rt:122:9
 is-guarded-requires : tie.Need-is-guarded-requires
 is-guarded-requires c κs = search needs
 
--- src/lib.rt:123:9
 returns-3 : tie.Need-returns-3
-returns-3 c = ?
+unfolding settingRefusal
+returns-3 c = refuse-later _ _ _ _ (c .before .before .before .before .before .registers-fit .ensures) _ (c .before .before .before .before .if1 .left)
+    (refuse-later _ _ _ _ (c .before .before .before .switch-fits .ensures) _ (c .before .before .if2 .left)
+    (refuse-here _ _ _ _ (c .before .is-guarded .ensures) (c .if3 .taken)))
 
--- src/lib.rt:125:9
 fits-at-requires : tie.Need-fits-at-requires
-fits-at-requires c κs = ?
+fits-at-requires c κs = guarded-below _ _ (c .before .is-guarded .ensures) (c .if3 .left)
 
--- src/lib.rt:126:9
 returns-4 : tie.Need-returns-4
-returns-4 c = ?
+unfolding settingRefusal
+returns-4 c = refuse-later _ _ _ _ (c .before .before .before .before .before .before .before .registers-fit .ensures) _ (c .before .before .before .before .before .before .if1 .left)
+    (refuse-later _ _ _ _ (c .before .before .before .before .before .switch-fits .ensures) _ (c .before .before .before .before .if2 .left)
+    (refuse-later _ _ _ _ (c .before .before .before .is-guarded .ensures) _ (c .before .before .if3 .left)
+    (refuse-here _ _ _ _ (c .before .fits-at .ensures) (c .if4 .taken))))
 
--- src/lib.rt:113:1
 returns-5 : tie.Need-returns-5
-returns-5 c = ?
+unfolding settingRefusal
+returns-5 c = refuse-later _ _ _ _ (c .before .before .before .before .before .before .before .registers-fit .ensures) _ (c .before .before .before .before .before .before .if1 .left)
+    (refuse-later _ _ _ _ (c .before .before .before .before .before .switch-fits .ensures) _ (c .before .before .before .before .if2 .left)
+    (refuse-later _ _ _ _ (c .before .before .before .is-guarded .ensures) _ (c .before .before .if3 .left)
+    (refuse-later _ _ _ _ (c .before .fits-at .ensures) _ (c .if4 .left) refl)))
 
 pub setting-refusal-spec : {M : Type 1} → statement M
 setting-refusal-spec =
