@@ -1,69 +1,56 @@
+use Prim.Native.Nat.{_-_}
+use native.Mathlib.Omega.{arith}
+use mathlib.Core.Path.{refl}
+use Rattle.slots.specs.Buffer.Buffer.{Wide}
+use Rattle.store.proofs.KeptLaws.{entry-lt, Sweeping, sweep-begin, sweep-fits, number-le, same-run, turn-kept, turn-emptied, sweep-end}
 use Rattle.store.proofs.sweep.Statement.{statement}
 use Rattle.store.proofs.sweep.Tie as tie
-use Rattle.store.proofs.sweep.Reads as reads
-use Rattle.store.proofs.sweep.Lts as lts
-use Rattle.entry.proofs.empty_entry.Reads as empty-entry-reads
-use Rattle.slots.proofs.put_slot.Reads as put-slot-reads
-use Rattle.slots.proofs.slot_at.Reads as slot-at-reads
-use Rattle.store.proofs.kept.Reads as kept-reads
 
 abbrev Inv-loop : tie.InvT-loop
-Inv-loop buffer₀ words emptied₀ slot₀ buffer emptied slot = ?
+Inv-loop buffer₀ words emptied₀ slot₀ buffer emptied slot = Sweeping words (Wide buffer₀) (Wide buffer) emptied slot
 
 abbrev μ-loop : tie.MeasureT-loop
-μ-loop buffer₀ words emptied₀ slot₀ buffer emptied slot = ?
+μ-loop buffer₀ words emptied₀ slot₀ buffer emptied slot = 64 - slot
 
--- src/lib.rt:71:5
 loop-holds : tie.Need-loop-holds Inv-loop μ-loop
-loop-holds c = ?
+loop-holds c = sweep-begin _ _
 
--- src/lib.rt:73:9
 add-slot : tie.Need-add-slot Inv-loop μ-loop
-add-slot c = ?
+add-slot c = omega arith
 
--- src/lib.rt:74:13
 slot-at-requires : tie.Need-slot-at-requires Inv-loop μ-loop
-slot-at-requires c κs = ?
+slot-at-requires c κs = (sweep-fits _ _ _ _ _ (c .before .before .loop .inv) (c .before .before .before .before .before .pre .0), omega arith)
 
--- src/lib.rt:75:13
 kept-requires : tie.Need-kept-requires Inv-loop μ-loop
-kept-requires c κs = ?
+kept-requires c κs = (c .before .before .before .before .before .before .pre .1, omega arith, entry-lt _ _ _ (c .slot-at .ensures))
 
--- src/lib.rt:76:17
 empty-entry-requires : tie.Need-empty-entry-requires Inv-loop μ-loop
-empty-entry-requires c κs = ?
+empty-entry-requires c κs = omega arith
 
--- src/lib.rt:77:13
 put-slot-requires : tie.Need-put-slot-requires Inv-loop μ-loop
-put-slot-requires c κs = ?
+put-slot-requires c κs = (sweep-fits _ _ _ _ _ (c .before .before .before .before .before .before .before .loop .inv) (c .before .before .before .before .before .before .before .before .before .before .pre .0), omega arith)
 
--- src/lib.rt:78:13
 add-emptied : tie.Need-add-emptied Inv-loop μ-loop
-add-emptied c = ?
+add-emptied c = omega (arith, number-le _ _ _ _ _ (c .before .before .before .before .before .before .before .before .before .before .loop .inv))
 
--- src/lib.rt:71:5
 loop-less : tie.Need-loop-less Inv-loop μ-loop
-loop-less c = ?
+loop-less c = omega arith
 
--- src/lib.rt:71:5
 loop-again : tie.Need-loop-again Inv-loop μ-loop
-loop-again c = ?
+loop-again c = turn-emptied _ _ _ _ _ (c .before .before .before .before .before .before .before .before .before .before .loop .inv) _ _ (omega arith) (c .before .before .before .before .before .before .before .slot-at .ensures) (c .before .before .before .before .before .before .kept .ensures) _ _
+    (c .before .before .before .before .before .if1 .taken) (c .before .before .before .before .empty-entry .ensures) (c .before .before .put-slot .ensures)
 
--- src/lib.rt:71:5
 loop-less-2 : tie.Need-loop-less-2 Inv-loop μ-loop
-loop-less-2 c = ?
+loop-less-2 c = omega arith
 
--- src/lib.rt:71:5
 loop-again-2 : tie.Need-loop-again-2 Inv-loop μ-loop
-loop-again-2 c = ?
+loop-again-2 c = turn-kept _ _ _ _ _ (c .before .before .before .before .before .loop .inv) _ _ (omega arith) (c .before .before .slot-at .ensures) (c .before .kept .ensures) (c .if1 .left)
 
--- src/lib.rt:65:1
 same-length : tie.Need-same-length Inv-loop μ-loop
-same-length c = ?
+same-length c = same-run _ _ _ _ _ (c .before .loop .inv) _ _ refl refl (c .before .before .before .before .pre .0)
 
--- src/lib.rt:65:1
 returns : tie.Need-returns Inv-loop μ-loop
-returns c = ?
+returns c = sweep-end _ _ _ _ _ (c .before .loop .inv) (omega arith)
 
 pub sweep-spec : {M : Type 1} → statement M
 sweep-spec =
