@@ -30,7 +30,8 @@ use Rattle.slots.specs.Buffer.{Buffer, bufferFits, slotAt, withSlot}
 use Rattle.slots.specs.Buffer.Buffer.{Wide}
 use Rattle.slots.proofs.Slots.{fits-length, slot-lt}
 use Rattle.store.specs.Leaf.{leafEntry}
-use Rattle.store.specs.Sweep.{isEmpty, agreesWithLeaf, agreesWithTables, kept, keptAt, sweptSlot, sweptFirst, swept, emptied, SweepGives}
+use Rattle.store.specs.Sweep.{isEmpty, agreesWithLeaf, agreesWithTables, kept, keptAt, sweptSlot, sweptFirst, swept, emptied}
+use Rattle.store.specs.Sweep.{SweepGives}
 use Rattle.store.proofs.Sweeps.{first-fits, kept-not-reached}
 
 -- the fields that the code takes from a leaf's word
@@ -57,7 +58,8 @@ pub page-lt : (e slot vpn15 : ℕ) → vpn15 ≡ (unpack e) .vpn15 → 16 * vpn1
 unfolding vpnAt
 page-lt e slot vpn15 q = vpn-at-lt slot vpn15 (subst (λ (v : ℕ). v < 2 ^ 15) (sym q) (unpack-fits e .vpn15-fits))
 
-leaf-vpn15 : (e slot id vpn15 : ℕ) (f : Found) → vpn15 ≡ (unpack e) .vpn15 → (unpack e) .vpn15 ≡ (leafEntry id (16 * vpn15 + slot % 16) f) .vpn15
+leaf-vpn15 : (e slot id vpn15 : ℕ) (f : Found) → vpn15 ≡ (unpack e) .vpn15
+    → (unpack e) .vpn15 ≡ (leafEntry id (16 * vpn15 + slot % 16) f) .vpn15
 unfolding leafEntry vpn15Of
 leaf-vpn15 e slot id vpn15 f q = sym q ∙ (let k : vpn15 ≡ (16 * vpn15 + slot % 16) / 16 = omega arith in k)
 
@@ -66,7 +68,8 @@ module _ (words : List ℕ) (slot e id : ℕ) (iq : id ≡ (unpack e) .«page_id
   unfolding agreesWithTables
   agrees-not l = sym (rw (← iq, lt-leb id 62 l))
 
-  module _ (vpn15 : ℕ) (vq : vpn15 ≡ (unpack e) .vpn15) (l : id ≤ 62) (found : Walk) (wq : found ≡ walkPage words id (16 * vpn15 + slot % 16))
+  module _ (vpn15 : ℕ) (vq : vpn15 ≡ (unpack e) .vpn15) (l : id ≤ 62) (found : Walk)
+      (wq : found ≡ walkPage words id (16 * vpn15 + slot % 16))
     where
       agrees-by-walk : agreesWithTables words slot (unpack e) ≡ agreesWithLeaf found (16 * vpn15 + slot % 16) (unpack e)
       unfolding agreesWithTables vpnAt
@@ -150,7 +153,9 @@ module _ (words : List ℕ) (b now : Buffer) (number slot : ℕ) (s : Sweeping w
     next after more aq mq = rw (add-one slot) (record {
       in-range = l;
       swept-so-far =
-          aq ∙ ap (λ (k : Bool). cond k now (withSlot now slot (emptyEntry (setOf slot)))) now-kept ∙ ap (sweptSlot words slot) (s .swept-so-far);
+          aq
+          ∙ ap (λ (k : Bool). cond k now (withSlot now slot (emptyEntry (setOf slot)))) now-kept
+          ∙ ap (sweptSlot words slot) (s .swept-so-far);
       number-so-far =
           mq
           ∙ ap (λ (n : ℕ). n + bit (not t)) (s .number-so-far)

@@ -17,7 +17,8 @@ use Rattle.slots.specs.Buffer.{Buffer, bufferFits}
 use Rattle.store.specs.Machine.{Machine}
 use Rattle.store.specs.Sweep.{emptied, SweepGives}
 use Rattle.store.specs.Rewrite.{Put, written, RewriteGives}
-use Rattle.store.specs.TableStore.{indexFits, storeRefusal, storedWords, storeReply, bufferAfterStore, wordsAfterStore, TableStoreGives}
+use Rattle.store.specs.TableStore.{indexFits, storeRefusal, storedWords, storeReply, bufferAfterStore, wordsAfterStore}
+use Rattle.store.specs.TableStore.{TableStoreGives}
 
 pub one-written : (words : List ℕ) (b after : Buffer) (index value number : ℕ) → SweepGives (set words index value) b after number
     → RewriteGives ((record { index = index; value = value }) ∷ []) words (set words index value) b after number
@@ -70,7 +71,8 @@ module _ (m : Machine) (index n : ℕ) (nq : n ≡ storeRefusal m (record { inde
         (when-refused _ n number-is _ _ _ h refl) (when-refused _ n number-is _ _ _ h refl)
 
     pub store-done : (after : Buffer) (words : List ℕ) (number : ℕ) → n ≡ 0
-        → RewriteGives ((record { index = index; value = value }) ∷ []) (m .words) words (m .buffer) after number → reply ≡ done (m .registers) number
+        → RewriteGives ((record { index = index; value = value }) ∷ []) (m .words) words (m .buffer) after number
+        → reply ≡ done (m .registers) number
         → TableStoreGives m put reply after words
     unfolding storeReply bufferAfterStore wordsAfterStore storedWords
     store-done after words number z r q =

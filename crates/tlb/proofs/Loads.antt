@@ -28,7 +28,8 @@ load-slot-lt b context vpn draw l =
     slot-lt (lowest (setMatches b context vpn) 4 draw) vpn (lowest-lt (setMatches b context vpn) 4 draw l)
 
 -- what the code stores and answers, by its search
-pub load-gives : (b after : Buffer) (context vpn draw e count set slot : ℕ) → Searched b true context vpn draw count set → slot ≡ slotOf set vpn
+pub load-gives : (b after : Buffer) (context vpn draw e count set slot : ℕ) → Searched b true context vpn draw count set
+    → slot ≡ slotOf set vpn
     → after ≡ withSlot b slot e → LoadGives b after context vpn draw e slot
 unfolding loadedBuffer
 load-gives b after context vpn draw e count set slot found sq bq =

@@ -27,7 +27,8 @@ done-requires c κs = search needs
 
 returns-2 : tie.Need-returns-2
 unfolding settingReply
-returns-2 c = setting-gives _ _ _ _ (when-accepted _ _ (c .before .before .before .setting-refusal .ensures) _ _ _ (c .before .before .if1 .left)
+returns-2 c = setting-gives _ _ _ _ (when-accepted _ _ (c .before .before .before .setting-refusal .ensures) _ _ _
+    (c .before .before .if1 .left)
     (c .done .ensures ∙ ap (λ (q : Registers). done q 0) (c .before .put .ensures)))
 
 pub guarded-setting-spec : {M : Type 1} → statement M

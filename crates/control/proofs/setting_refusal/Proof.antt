@@ -26,7 +26,8 @@ is-guarded-requires c κs = search needs
 
 returns-3 : tie.Need-returns-3
 unfolding settingRefusal
-returns-3 c = refuse-later _ _ _ _ (c .before .before .before .before .before .registers-fit .ensures) _ (c .before .before .before .before .if1 .left)
+returns-3 c = refuse-later _ _ _ _ (c .before .before .before .before .before .registers-fit .ensures) _
+    (c .before .before .before .before .if1 .left)
     (refuse-later _ _ _ _ (c .before .before .before .switch-fits .ensures) _ (c .before .before .if2 .left)
     (refuse-here _ _ _ _ (c .before .is-guarded .ensures) (c .if3 .taken)))
 
@@ -35,14 +36,16 @@ fits-at-requires c κs = guarded-below _ _ (c .before .is-guarded .ensures) (c .
 
 returns-4 : tie.Need-returns-4
 unfolding settingRefusal
-returns-4 c = refuse-later _ _ _ _ (c .before .before .before .before .before .before .before .registers-fit .ensures) _ (c .before .before .before .before .before .before .if1 .left)
+returns-4 c = refuse-later _ _ _ _ (c .before .before .before .before .before .before .before .registers-fit .ensures) _
+    (c .before .before .before .before .before .before .if1 .left)
     (refuse-later _ _ _ _ (c .before .before .before .before .before .switch-fits .ensures) _ (c .before .before .before .before .if2 .left)
     (refuse-later _ _ _ _ (c .before .before .before .is-guarded .ensures) _ (c .before .before .if3 .left)
     (refuse-here _ _ _ _ (c .before .fits-at .ensures) (c .if4 .taken))))
 
 returns-5 : tie.Need-returns-5
 unfolding settingRefusal
-returns-5 c = refuse-later _ _ _ _ (c .before .before .before .before .before .before .before .registers-fit .ensures) _ (c .before .before .before .before .before .before .if1 .left)
+returns-5 c = refuse-later _ _ _ _ (c .before .before .before .before .before .before .before .registers-fit .ensures) _
+    (c .before .before .before .before .before .before .if1 .left)
     (refuse-later _ _ _ _ (c .before .before .before .before .before .switch-fits .ensures) _ (c .before .before .before .before .if2 .left)
     (refuse-later _ _ _ _ (c .before .before .before .is-guarded .ensures) _ (c .before .before .if3 .left)
     (refuse-later _ _ _ _ (c .before .fits-at .ensures) _ (c .if4 .left) refl)))

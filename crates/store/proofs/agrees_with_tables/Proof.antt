@@ -26,15 +26,19 @@ enum-known-found : tie.Need-enum-known-found
 enum-known-found c = search needs
 
 returns-2 : tie.Need-returns-2
-returns-2 c = agrees-none _ _ _ _ (c .before .before .before .before .page-id-of .ensures) _ (c .before .before .vpn15-of .ensures) (c .before .before .before .if1 .left) _ (c .before .walk-page .ensures)
+returns-2 c = agrees-none _ _ _ _ (c .before .before .before .before .page-id-of .ensures) _ (c .before .before .vpn15-of .ensures)
+    (c .before .before .before .if1 .left) _ (c .before .walk-page .ensures)
     (c .match .keys2)
 
 leaf-entry-requires : tie.Need-leaf-entry-requires
 leaf-entry-requires c κs = (omega arith, page-lt _ _ _ (c .before .before .before .before .vpn15-of .ensures))
 
 returns-3 : tie.Need-returns-3
-returns-3 c = agrees-leaf _ _ _ _ (c .before .before .before .before .before .before .before .page-id-of .ensures) _ (c .before .before .before .before .before .vpn15-of .ensures) (c .before .before .before .before .before .before .if1 .left) _ (c .before .before .before .before .walk-page .ensures)
-    _ _ (c .before .before .found .given .1) (c .before .before .before .before .before .before .before .before .before .pre .2) (c .leaf-entry .ensures)
+returns-3 c = agrees-leaf _ _ _ _ (c .before .before .before .before .before .before .before .page-id-of .ensures) _
+    (c .before .before .before .before .before .vpn15-of .ensures) (c .before .before .before .before .before .before .if1 .left) _
+    (c .before .before .before .before .walk-page .ensures)
+    _ _ (c .before .before .found .given .1) (c .before .before .before .before .before .before .before .before .before .pre .2)
+    (c .leaf-entry .ensures)
 
 pub agrees-with-tables-spec : {M : Type 1} → statement M
 agrees-with-tables-spec =

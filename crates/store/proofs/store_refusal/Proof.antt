@@ -25,20 +25,23 @@ tables-fit-requires c κs = search needs
 
 returns-3 : tie.Need-returns-3
 unfolding storeRefusal
-returns-3 c = refuse-later _ _ _ _ (c .before .before .before .before .before .registers-fit .ensures) _ (c .before .before .before .before .if1 .left)
+returns-3 c = refuse-later _ _ _ _ (c .before .before .before .before .before .registers-fit .ensures) _
+    (c .before .before .before .before .if1 .left)
     (refuse-later _ _ _ _ (c .before .before .before .buffer-fits .ensures) _ (c .before .before .if2 .left)
     (refuse-here _ _ _ _ (c .before .tables-fit .ensures) (c .if3 .taken)))
 
 returns-4 : tie.Need-returns-4
 unfolding storeRefusal indexFits
-returns-4 c = refuse-later _ _ _ _ (c .before .before .before .before .before .before .registers-fit .ensures) _ (c .before .before .before .before .before .if1 .left)
+returns-4 c = refuse-later _ _ _ _ (c .before .before .before .before .before .before .registers-fit .ensures) _
+    (c .before .before .before .before .before .if1 .left)
     (refuse-later _ _ _ _ (c .before .before .before .before .buffer-fits .ensures) _ (c .before .before .before .if2 .left)
     (refuse-later _ _ _ _ (c .before .before .tables-fit .ensures) _ (c .before .if3 .left)
     (refuse-here _ _ _ _ refl (c .if4 .taken))))
 
 returns-5 : tie.Need-returns-5
 unfolding storeRefusal indexFits
-returns-5 c = refuse-later _ _ _ _ (c .before .before .before .before .before .before .registers-fit .ensures) _ (c .before .before .before .before .before .if1 .left)
+returns-5 c = refuse-later _ _ _ _ (c .before .before .before .before .before .before .registers-fit .ensures) _
+    (c .before .before .before .before .before .if1 .left)
     (refuse-later _ _ _ _ (c .before .before .before .before .buffer-fits .ensures) _ (c .before .before .before .if2 .left)
     (refuse-later _ _ _ _ (c .before .before .tables-fit .ensures) _ (c .before .if3 .left)
     (refuse-later _ _ _ _ refl _ (c .if4 .left) refl)))

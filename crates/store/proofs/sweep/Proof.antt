@@ -2,7 +2,8 @@ use Prim.Native.Nat.{_-_}
 use native.Mathlib.Omega.{arith}
 use mathlib.Core.Path.{refl}
 use Rattle.slots.specs.Buffer.Buffer.{Wide}
-use Rattle.store.proofs.KeptLaws.{entry-lt, Sweeping, sweep-begin, sweep-fits, number-le, same-run, turn-kept, turn-emptied, sweep-end}
+use Rattle.store.proofs.KeptLaws.{entry-lt, Sweeping, sweep-begin, sweep-fits, number-le, same-run, turn-kept, turn-emptied}
+use Rattle.store.proofs.KeptLaws.{sweep-end}
 use Rattle.store.proofs.sweep.Statement.{statement}
 use Rattle.store.proofs.sweep.Tie as tie
 
@@ -19,7 +20,11 @@ add-slot : tie.Need-add-slot Inv-loop μ-loop
 add-slot c = omega arith
 
 slot-at-requires : tie.Need-slot-at-requires Inv-loop μ-loop
-slot-at-requires c κs = (sweep-fits _ _ _ _ _ (c .before .before .loop .inv) (c .before .before .before .before .before .pre .0), omega arith)
+slot-at-requires c κs = (
+  sweep-fits _ _ _ _ _ (c .before .before .loop .inv)
+      (c .before .before .before .before .before .pre .0),
+  omega arith,
+)
 
 kept-requires : tie.Need-kept-requires Inv-loop μ-loop
 kept-requires c κs = (c .before .before .before .before .before .before .pre .1, omega arith, entry-lt _ _ _ (c .slot-at .ensures))
@@ -28,23 +33,32 @@ empty-entry-requires : tie.Need-empty-entry-requires Inv-loop μ-loop
 empty-entry-requires c κs = omega arith
 
 put-slot-requires : tie.Need-put-slot-requires Inv-loop μ-loop
-put-slot-requires c κs = (sweep-fits _ _ _ _ _ (c .before .before .before .before .before .before .before .loop .inv) (c .before .before .before .before .before .before .before .before .before .before .pre .0), omega arith)
+put-slot-requires c κs = (
+  sweep-fits _ _ _ _ _ (c .before .before .before .before .before .before .before .loop .inv)
+      (c .before .before .before .before .before .before .before .before .before .before .pre .0),
+  omega arith,
+)
 
 add-emptied : tie.Need-add-emptied Inv-loop μ-loop
-add-emptied c = omega (arith, number-le _ _ _ _ _ (c .before .before .before .before .before .before .before .before .before .before .loop .inv))
+add-emptied c = let n = number-le _ _ _ _ _
+    (c .before .before .before .before .before .before .before .before .before .before .loop .inv) in omega arith
 
 loop-less : tie.Need-loop-less Inv-loop μ-loop
 loop-less c = omega arith
 
 loop-again : tie.Need-loop-again Inv-loop μ-loop
-loop-again c = turn-emptied _ _ _ _ _ (c .before .before .before .before .before .before .before .before .before .before .loop .inv) _ _ (omega arith) (c .before .before .before .before .before .before .before .slot-at .ensures) (c .before .before .before .before .before .before .kept .ensures) _ _
-    (c .before .before .before .before .before .if1 .taken) (c .before .before .before .before .empty-entry .ensures) (c .before .before .put-slot .ensures)
+loop-again c = turn-emptied _ _ _ _ _ (c .before .before .before .before .before .before .before .before .before .before .loop .inv) _ _
+    (omega arith) (c .before .before .before .before .before .before .before .slot-at .ensures)
+    (c .before .before .before .before .before .before .kept .ensures) _ _
+    (c .before .before .before .before .before .if1 .taken) (c .before .before .before .before .empty-entry .ensures)
+    (c .before .before .put-slot .ensures)
 
 loop-less-2 : tie.Need-loop-less-2 Inv-loop μ-loop
 loop-less-2 c = omega arith
 
 loop-again-2 : tie.Need-loop-again-2 Inv-loop μ-loop
-loop-again-2 c = turn-kept _ _ _ _ _ (c .before .before .before .before .before .loop .inv) _ _ (omega arith) (c .before .before .slot-at .ensures) (c .before .kept .ensures) (c .if1 .left)
+loop-again-2 c = turn-kept _ _ _ _ _ (c .before .before .before .before .before .loop .inv) _ _ (omega arith)
+    (c .before .before .slot-at .ensures) (c .before .kept .ensures) (c .if1 .left)
 
 same-length : tie.Need-same-length Inv-loop μ-loop
 same-length c = same-run _ _ _ _ _ (c .before .loop .inv) _ _ refl refl (c .before .before .before .before .pre .0)

@@ -31,7 +31,9 @@ same-length-4 : tie.Need-same-length-4
 same-length-4 c = search needs
 
 returns-2 : tie.Need-returns-2
-returns-2 c = store-done _ _ _ (c .before .before .before .before .before .before .before .before .before .store-refusal .ensures) _ _ _ _ _ (c .before .before .before .before .before .before .before .before .if1 .left) (c .before .before .before .before .before .rewrite .ensures) (c .done .ensures)
+returns-2 c = store-done _ _ _ (c .before .before .before .before .before .before .before .before .before .store-refusal .ensures) _ _ _ _ _
+    (c .before .before .before .before .before .before .before .before .if1 .left)
+    (c .before .before .before .before .before .rewrite .ensures) (c .done .ensures)
 
 pub table-store-spec : {M : Type 1} → statement M
 table-store-spec =

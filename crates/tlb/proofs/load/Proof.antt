@@ -24,7 +24,8 @@ same-length : tie.Need-same-length
 same-length c = search needs
 
 returns : tie.Need-returns
-returns c = load-gives _ _ _ _ _ _ _ _ _ (c .before .before .before .before .before .search .ensures) (c .before .before .before .before .slot-of .ensures) (c .before .before .put-slot .ensures)
+returns c = load-gives _ _ _ _ _ _ _ _ _ (c .before .before .before .before .before .search .ensures)
+    (c .before .before .before .before .slot-of .ensures) (c .before .before .put-slot .ensures)
 
 pub load-spec : {M : Type 1} → statement M
 load-spec =
