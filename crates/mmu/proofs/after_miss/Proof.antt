@@ -1,64 +1,53 @@
+use Rattle.access.proofs.AccessLaws.{context-lt, draw-lt}
+use Rattle.mmu.proofs.ServedLaws.{page-lt, miss-final, loaded-accepted, miss-loaded}
 use borrow.Author.Needs.{needs}
 use Rattle.mmu.proofs.after_miss.Statement.{statement}
 use Rattle.mmu.proofs.after_miss.Tie as tie
-use Rattle.mmu.proofs.after_miss.Reads as reads
-use Rattle.mmu.proofs.after_miss.Lts as lts
-use Rattle.access.proofs.translate.Reads as translate-reads
-use Rattle.entry.proofs.vpn_of.Reads as vpn-of-reads
-use Rattle.mmu.proofs.tried_reply.Reads as tried-reply-reads
-use Rattle.page_table.proofs.walk_fault.Reads as walk-fault-reads
-use Rattle.registers.proofs.answered.Reads as answered-reads
-use Rattle.registers.proofs.put.Reads as put-reads
-use Rattle.store.proofs.leaf_entry.Reads as leaf-entry-reads
-use Rattle.tlb.proofs.load.Reads as load-reads
 
--- src/lib.rt:112:20
 enum-known-found : tie.Need-enum-known-found
 enum-known-found c = search needs
 
--- src/lib.rt:113:13
 walk-fault-requires : tie.Need-walk-fault-requires
 walk-fault-requires c κs = search needs
 
--- src/lib.rt:114:9
 answered-requires : tie.Need-answered-requires
 answered-requires c κs = search needs
 
--- src/lib.rt:114:9
 returns : tie.Need-returns
-returns c = ?
+returns c = miss-final _ _ _ _ _ _ (c .before .before .match .keys2) (c .before .walk-fault .ensures) (c .answered .ensures)
 
--- src/lib.rt:116:9
 vpn-of-requires : tie.Need-vpn-of-requires
 vpn-of-requires c κs = search needs
 
--- src/lib.rt:117:9
 leaf-entry-requires : tie.Need-leaf-entry-requires
-leaf-entry-requires c κs = ?
+leaf-entry-requires c κs = (context-lt _ (c .before .before .before .before .before .pre .registers-fit), page-lt _ _ (c .vpn-of .ensures))
 
--- src/lib.rt:118:9
 load-requires : tie.Need-load-requires
-load-requires c κs = ?
+load-requires c κs = (
+  c .before .before .before .before .before .before .before .pre .buffer-fits,
+  draw-lt _
+      (c .before .before .before .before .before .before .before .pre .draw-fits),
+)
 
--- src/lib.rt:119:9
 put-requires : tie.Need-put-requires
 put-requires c κs = search needs
 
--- src/lib.rt:120:9
 translate-requires : tie.Need-translate-requires
-translate-requires c κs = ?
+translate-requires c κs = loaded-accepted _ _ _ _ _ _ _ _ (c .before .before .before .before .load .ensures) (c .before .put .ensures)
+    (c .before .before .before .before .before .before .before .before .before .before .before .before .pre)
 
--- src/lib.rt:121:5
 tried-reply-requires : tie.Need-tried-reply-requires
 tried-reply-requires c κs = search needs
 
--- src/lib.rt:108:1
 same-length : tie.Need-same-length
 same-length c = search needs
 
--- src/lib.rt:108:1
 returns-2 : tie.Need-returns-2
-returns-2 c = ?
+returns-2 c = miss-loaded _ _ _ _ _ _ _ _ (c .before .before .before .before .before .before .load .ensures)
+    (c .before .before .before .put .ensures) _ _ _ _ (c .before .before .before .before .before .before .before .before .before .before .before .found .given .1)
+    (c .before .before .before .before .before .before .before .before .before .vpn-of .ensures)
+    (c .before .before .before .before .before .before .before .before .leaf-entry .ensures) (c .before .translate .ensures)
+    (c .tried-reply .ensures)
 
 pub after-miss-spec : {M : Type 1} → statement M
 after-miss-spec =

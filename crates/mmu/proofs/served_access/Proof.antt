@@ -1,39 +1,30 @@
+use mathlib.Core.Path.{sym, _∙_}
+use Rattle.mmu.proofs.ServedLaws.{served-accepted, served-refused, served-done}
 use borrow.Author.Needs.{needs}
 use Rattle.mmu.proofs.served_access.Statement.{statement}
 use Rattle.mmu.proofs.served_access.Tie as tie
-use Rattle.mmu.proofs.served_access.Reads as reads
-use Rattle.mmu.proofs.served_access.Lts as lts
-use Rattle.mmu.proofs.serve.Reads as serve-reads
-use Rattle.mmu.proofs.served_refusal.Reads as served-refusal-reads
-use Rattle.registers.proofs.refused.Reads as refused-reads
 
--- src/lib.rt:161:9
 served-refusal-requires : tie.Need-served-refusal-requires
 served-refusal-requires c κs = search needs
 
--- src/lib.rt:163:9
 refused-requires : tie.Need-refused-requires
 refused-requires c κs = search needs
 
--- src/lib.rt:163:9
 same-length : tie.Need-same-length
 same-length c = search needs
 
--- src/lib.rt:163:9
 returns : tie.Need-returns
-returns c = ?
+returns c = served-refused _ _ _ (c .before .before .served-refusal .ensures) _ (c .before .if1 .taken) (c .refused .ensures)
 
--- src/lib.rt:165:5
 serve-requires : tie.Need-serve-requires
-serve-requires c κs = ?
+serve-requires c κs = served-accepted _ _ (sym (c .before .before .served-refusal .ensures) ∙ c .before .if1 .left)
 
--- src/lib.rt:142:1
 same-length-2 : tie.Need-same-length-2
 same-length-2 c = search needs
 
--- src/lib.rt:142:1
 returns-2 : tie.Need-returns-2
-returns-2 c = ?
+returns-2 c = served-done _ _ _ (c .before .before .before .before .before .served-refusal .ensures) _ _
+    (c .before .before .before .before .if1 .left) (c .before .before .serve .ensures)
 
 pub served-access-spec : {M : Type 1} → statement M
 served-access-spec =
