@@ -136,6 +136,6 @@ pub fn guarded_setting(r: Registers, number: u32, value: u32) -> Reply
     if refusal != 0 {
         return registers::refused(r, refusal);
     }
-    let after = registers::put(r, number, value);
-    registers::done(after, 0)
+    let changed = registers::put(r, number, value);
+    registers::done(changed, 0)
 }

@@ -2,6 +2,7 @@
 ghost use mathlib.Core.Path.{_≡_};
 ghost use Prim.Native.Nat.{_≤_};
 ghost use lib.ListN.{length};
+ghost use Rattle.registers.specs.Refusals.{drawFits};
 ghost use Rattle.slots.specs.Buffer.{Buffer};
 ghost use Rattle.access.specs.Translation.{Accepted};
 ghost use Rattle.mmu.specs.RawAccess.{RawAccessGives, rawRefusal};
@@ -20,6 +21,13 @@ pub enum RawReply {
     Refused(u32, Registers),
 }
 
+// The draw is the number of a set.
+fn draw_fits(draw: u32) -> bool
+    ensures { λ b. ⌜ b ≡ drawFits draw ⌝ }
+{
+    draw <= 3
+}
+
 fn raw_refusal(r: Registers, buffer: &[u64], a: Access) -> u32
     ensures { λ n. ⌜ n ≡ rawRefusal r (Buffer.Wide (now (buffer .entry))) a ⌝ }
 {
@@ -29,8 +37,7 @@ fn raw_refusal(r: Registers, buffer: &[u64], a: Access) -> u32
     if !slots::buffer_fits(buffer) {
         return 2;
     }
-    let draw_fits = a.draw <= 3;
-    if !draw_fits {
+    if !draw_fits(a.draw) {
         return 4;
     }
     0
@@ -82,8 +89,7 @@ fn served_refusal(r: Registers, buffer: &[u64], words: &[u32], a: Access) -> u32
     if !page_table::tables_fit(words) {
         return 3;
     }
-    let draw_fits = a.draw <= 3;
-    if !draw_fits {
+    if !draw_fits(a.draw) {
         return 4;
     }
     if !may_be_served(r) {
@@ -158,9 +164,9 @@ pub fn served_access(
         write,
         draw,
     };
-    let refusal = served_refusal(r, buffer, words, a);
-    if refusal != 0 {
-        return registers::refused(r, refusal);
+    let number = served_refusal(r, buffer, words, a);
+    if number != 0 {
+        return registers::refused(r, number);
     }
     serve(r, buffer, words, a)
 }

@@ -44,7 +44,8 @@ same-length c = search needs
 
 returns-2 : tie.Need-returns-2
 returns-2 c = miss-loaded _ _ _ _ _ _ _ _ (c .before .before .before .before .before .before .load .ensures)
-    (c .before .before .before .put .ensures) _ _ _ _ (c .before .before .before .before .before .before .before .before .before .before .before .found .given .1)
+    (c .before .before .before .put .ensures) _ _ _ _
+    (c .before .before .before .before .before .before .before .before .before .before .before .found .given .1)
     (c .before .before .before .before .before .before .before .before .before .vpn-of .ensures)
     (c .before .before .before .before .before .before .before .before .leaf-entry .ensures) (c .before .translate .ensures)
     (c .tried-reply .ensures)
