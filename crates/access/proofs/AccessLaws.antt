@@ -152,7 +152,8 @@ module _ (r : Registers) (b : Buffer) (a : Access) (x : Translation) (t : Bool) 
   unfolding translate
   way-linear-off h e q = q ∙ sym (rw (sym tq ∙ h, is-off (r .enable) e))
 
-  pub way-linear : (address : ℕ) → t ≡ true → (r .enable ≡ 0 → ⊥) → address ≡ linearAddress (r .«kbase_lo») (r .«kbase_hi») (a .address) → x ≡ noException r address
+  pub way-linear : (address : ℕ) → t ≡ true → (r .enable ≡ 0 → ⊥) → address ≡ linearAddress (r .«kbase_lo») (r .«kbase_hi») (a .address)
+      → x ≡ noException r address
       → x ≡ translate r b a
   unfolding translate
   way-linear address h e p q = q ∙ rw p (sym (rw (sym tq ∙ h, is-on (r .enable) e)))

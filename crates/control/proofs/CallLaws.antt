@@ -4,7 +4,7 @@ use mathlib.Core.Path.{_≡_, refl, sym, ap, _∙_}
 use mathlib.Core.Bool.{Bool, true, false, not}
 use native.Mathlib.Omega.{arith}
 use lib.Dec.{lit<}
-use borrow.Author.Tests.{ltb-true, eq-eqb, ne-eqb, not-false}
+use borrow.Author.Tests.{ltb-true, leb-true, eq-eqb, ne-eqb, not-false}
 use Rattle.runs.proofs.Bits.{bits-low}
 use Rattle.entry.specs.Entry.{join}
 use Rattle.registers.specs.Fields.{field, put, toWords, widths, fitsAt, registersFit, zeroRegisters}
@@ -18,6 +18,7 @@ use Rattle.slots.specs.Start.{startBuffer}
 use Rattle.control.specs.Starting.{startRefusal, startReply, startedBuffer, StartGives}
 use Rattle.control.specs.Writing.{isRegister, writeRefusal, writtenEntry, writtenBuffer, writeReply, bufferAfterWrite, WriteGives}
 use Rattle.control.specs.Reading.{readRefusal, readReply, ReadGives}
+use Rattle.control.specs.Setting.{isGuarded, switchFits, settingRefusal, settingReply, GuardedSettingGives}
 
 pub number-below : (number : ℕ) (t : Bool) → t ≡ isRegister number → not t ≡ false → number < 10
 unfolding isRegister
@@ -49,6 +50,18 @@ read-accepted r number h =
     let one = passed (registersFit r) 1 _ (λ e. omega arith) h in
     let known = passed (isRegister number) 7 _ (λ e. omega arith) (one .1) in
     number-below number true (sym (known .0)) refl
+
+pub guarded-below : (number : ℕ) (t : Bool) → t ≡ isGuarded number → not t ≡ false → number < 11
+unfolding isGuarded
+guarded-below number t q h = omega (arith, leb-true number 5 (sym q ∙ not-false t h))
+
+pub setting-accepted : (r : Registers) (number value : ℕ) → settingRefusal r number value ≡ 0 → number < 11
+unfolding settingRefusal
+setting-accepted r number value h =
+    let one = passed (registersFit r) 1 _ (λ e. omega arith) h in
+    let five = passed (switchFits number value) 5 _ (λ e. omega arith) (one .1) in
+    let known = passed (isGuarded number) 7 _ (λ e. omega arith) (five .1) in
+    guarded-below number true (sym (known .0)) refl
 
 pub select-lt : (r : Registers) → registersFit r ≡ true → r .select < 64
 unfolding field toWords widths
@@ -91,6 +104,14 @@ pub read-gives : (r : Registers) (number : ℕ) (reply : Reply) → reply ≡ re
 unfolding readReply
 read-gives r number reply q = record {
   refusal-is = ap (λ (s : Reply). refusalOf (s .outcome)) q ∙ reply-refusal (readRefusal r number) (field r number) r r;
+  reply-is = q;
+}
+
+pub setting-gives : (r : Registers) (number value : ℕ) (reply : Reply) → reply ≡ settingReply r number value
+    → GuardedSettingGives r number value reply
+unfolding settingReply
+setting-gives r number value reply q = record {
+  refusal-is = ap (λ (s : Reply). refusalOf (s .outcome)) q ∙ reply-refusal (settingRefusal r number value) 0 (put r number value) r;
   reply-is = q;
 }
 

@@ -1,4 +1,4 @@
-// Start, register writes and register reads.
+// Start, register writes, register reads and guarded settings.
 ghost use mathlib.Core.Bool.{true};
 ghost use mathlib.Core.Path.{_≡_};
 ghost use Rattle.registers.specs.Fields.{fitsAt, registersFit};
@@ -6,6 +6,7 @@ ghost use Rattle.slots.specs.Buffer.{Buffer, bufferFits};
 ghost use Rattle.control.specs.Starting.{StartGives, startRefusal};
 ghost use Rattle.control.specs.Writing.{WriteGives, isRegister, writeRefusal, writtenBuffer};
 ghost use Rattle.control.specs.Reading.{ReadGives, readRefusal};
+ghost use Rattle.control.specs.Setting.{GuardedSettingGives, isGuarded, settingRefusal, switchFits};
 use registers::Registers;
 use registers::Reply;
 
@@ -93,4 +94,48 @@ pub fn read_register(r: Registers, number: u32) -> Reply
     }
     let value = registers::field(r, number);
     registers::done(r, value)
+}
+
+// Numbers 0 to 5, KSEG to CONTEXT, are guarded settings.
+fn is_guarded(number: u32) -> bool
+    ensures { λ b. ⌜ b ≡ isGuarded number ⌝ }
+{
+    number <= 5
+}
+
+// A setting of CONTEXT is a switch, to an identification of 62 at most.
+fn switch_fits(number: u32, value: u32) -> bool
+    ensures { λ b. ⌜ b ≡ switchFits number value ⌝ }
+{
+    (number != 5) | (value <= 62)
+}
+
+fn setting_refusal(r: Registers, number: u32, value: u32) -> u32
+    ensures { λ n. ⌜ n ≡ settingRefusal r number value ⌝ }
+{
+    if !registers::registers_fit(r) {
+        return 1;
+    }
+    if !switch_fits(number, value) {
+        return 5;
+    }
+    if !is_guarded(number) {
+        return 7;
+    }
+    if !registers::fits_at(number, value) {
+        return 7;
+    }
+    0
+}
+
+// Sets a guarded register.
+pub fn guarded_setting(r: Registers, number: u32, value: u32) -> Reply
+    ensures { λ s. ⌜ GuardedSettingGives r number value s ⌝ }
+{
+    let refusal = setting_refusal(r, number, value);
+    if refusal != 0 {
+        return registers::refused(r, refusal);
+    }
+    let changed = registers::put(r, number, value);
+    registers::done(changed, 0)
 }

@@ -1,1 +1,2 @@
 pub mod RawLaws
+pub mod ServedLaws

@@ -79,6 +79,11 @@ bufferAfterMiss (Leaf f) r b a = bufferLoaded r b a f
 bufferAfterMiss (Absent s) r b a = b
 bufferAfterMiss (Broken s) r b a = b
 
+-- what the part after a miss gives
+pub record MissGives (found : Walk) (r : Registers) (b : Buffer) (a : Access) (reply : Reply) (buffer-after : Buffer) : Type 0 where
+  pub reply-is : reply ≡ afterMiss found r b a
+  pub buffer-is : buffer-after ≡ bufferAfterMiss found r b a
+
 -- the first try, and the walk that follows a miss
 unfoldable pub firstTry : Machine → Access → Translation
 firstTry m a = translate (m .registers) (m .buffer) a
@@ -93,6 +98,11 @@ accessReply m a =
 
 unfoldable pub accessBuffer : Machine → Access → Buffer
 accessBuffer m a = cond (missed (firstTry m a)) (bufferAfterMiss (walkFor m a) ((firstTry m a) .registers) (m .buffer) a) (m .buffer)
+
+-- what an accepted access gives
+pub record AccessGives (m : Machine) (a : Access) (reply : Reply) (buffer-after : Buffer) : Type 0 where
+  pub reply-is : reply ≡ accessReply m a
+  pub buffer-is : buffer-after ≡ accessBuffer m a
 
 unfoldable pub servedReply : Machine → Access → Reply
 servedReply m a = byRefusal (servedRefusal m a) (accessReply m a) (refused (m .registers) (servedRefusal m a))

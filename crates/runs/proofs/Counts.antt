@@ -6,6 +6,7 @@ use mathlib.Core.Bool.{Bool, true, false, cond}
 use native.Mathlib.Nat.{le-of-suc-le-suc, not-suc-le-zero, eq-or-lt-of-le, lt-suc-self}
 use native.Mathlib.Omega.{arith}
 use Rattle.runs.specs.Bits.{bit}
+use Rattle.runs.proofs.Bits.{bit-le}
 use Rattle.runs.proofs.Bools.{is-false, clash, both, and-both}
 use Rattle.runs.specs.Counts.{all, count, lowest}
 
@@ -114,6 +115,10 @@ module _ (p : ℕ → Bool) where
       (λ (s : Some n). omega (arith, count-one n (s .0) (s .1) (s .2) (λ j l t. u j (s .0) l (s .1) t (s .2))))
       (none-or-some n)
 
+  pub count-le : (n : ℕ) → count p n ≤ n
+  unfolding count
+  count-le zero = omega arith
+  count-le (suc n) = omega (arith, count-le n, bit-le (p n))
 -- tests that agree below the bound
 module _ (p q : ℕ → Bool) where
   pub count-same : (n : ℕ) → ((k : ℕ) → k < n → p k ≡ q k) → count p n ≡ count q n

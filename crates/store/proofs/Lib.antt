@@ -1,1 +1,3 @@
 pub mod Sweeps
+pub mod KeptLaws
+pub mod StoreLaws

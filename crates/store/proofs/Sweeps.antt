@@ -1,6 +1,6 @@
 -- What a sweep leaves in each slot. Assumes nothing.
 use Prim.Native.Nat.{ℕ, zero, suc, _/_, _≤_, _<_}
-use mathlib.Core.Path.{_≡_, refl, sym, ap, _∙_}
+use mathlib.Core.Path.{_≡_, refl, ap, _∙_}
 use mathlib.Core.Logic.{_≢_, ⊎-elim}
 use mathlib.Core.Bool.{Bool, true, false, cond}
 use mathlib.Core.List.{List}
@@ -73,7 +73,8 @@ module _ (words : List ℕ) where
       last : slot ≡ n → Goal slot (slotAt (sweptSlot words n (sweptFirst words n b)) slot)
       last e = rw e here
 
-      earlier : slot < n → Goal slot (slotAt (sweptFirst words n b) slot) → Goal slot (slotAt (sweptSlot words n (sweptFirst words n b)) slot)
+      earlier : slot < n → Goal slot (slotAt (sweptFirst words n b) slot)
+          → Goal slot (slotAt (sweptSlot words n (sweptFirst words n b)) slot)
       earlier k ih = one-other n slot (sweptFirst words n b) (λ e. ne-of-lt k e) ∙ ih
 
   pub swept-fits : (b : Buffer) → bufferFits (swept words b) ≡ bufferFits b

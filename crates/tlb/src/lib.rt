@@ -1,4 +1,4 @@
-// The translation buffer's hit test and the search of a page's four slots.
+// The translation buffer's hit test, the search of a page's four slots, and the load of an entry.
 ghost use mathlib.Core.Bool.{true};
 ghost use mathlib.Core.Path.{_≡_};
 ghost use Prim.Native.Nat.{_<_};
@@ -6,6 +6,7 @@ ghost use Rattle.entry.specs.Entry.{unpack};
 ghost use Rattle.slots.specs.Buffer.{Buffer, bufferFits};
 ghost use Rattle.tlb.specs.Hit.{hit, idMatchesOrGlobal, matchesPage, validOrInvExc, vpn15Matches};
 ghost use Rattle.tlb.specs.Search.{Searched};
+ghost use Rattle.tlb.specs.Load.{LoadGives};
 
 // How many of the four slots hit, and the lowest set that does.
 pub struct Hits {
@@ -63,4 +64,16 @@ pub fn search(buffer: &[u64], inv_exc: bool, context: u32, vpn: u32, otherwise: 
         }
     }
     Hits { count, set }
+}
+
+// Stores an entry for a page and answers the slot: the lowest of the page's four that is the page's already, whatever its valid bit,
+// else the draw's. That is the hit search with inv_exc on.
+pub fn load(buffer: &mut [u64], context: u32, vpn: u32, draw: u32, e: u64) -> u32
+    requires { ⌜ (bufferFits (Buffer.Wide (now buffer)) ≡ true) × (draw < 4) ⌝ }
+    ensures { λ slot. ⌜ LoadGives (Buffer.Wide (now (buffer .entry))) (Buffer.Wide (now (buffer .exit))) context vpn draw e slot ⌝ }
+{
+    let found = search(buffer, true, context, vpn, draw);
+    let slot = entry::slot_of(found.set, vpn);
+    slots::put_slot(buffer, slot, e);
+    slot
 }

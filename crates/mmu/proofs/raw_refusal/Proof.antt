@@ -1,6 +1,5 @@
 use mathlib.Core.Path.{refl}
 use Rattle.registers.proofs.RefusalLaws.{refuse-here, refuse-later}
-use Rattle.registers.specs.Refusals.{drawFits}
 use Rattle.mmu.specs.RawAccess.{rawRefusal}
 use borrow.Author.Needs.{needs}
 use Rattle.mmu.proofs.raw_refusal.Statement.{statement}
@@ -21,19 +20,22 @@ unfolding rawRefusal
 returns-2 c = refuse-later _ _ _ _ (c .before .before .before .registers-fit .ensures) _ (c .before .before .if1 .left)
     (refuse-here _ _ _ _ (c .before .buffer-fits .ensures) (c .if2 .taken))
 
+draw-fits-requires : tie.Need-draw-fits-requires
+draw-fits-requires c κs = search needs
+
 returns-3 : tie.Need-returns-3
-unfolding rawRefusal drawFits
+unfolding rawRefusal
 returns-3 c = refuse-later _ _ _ _ (c .before .before .before .before .before .registers-fit .ensures) _
     (c .before .before .before .before .if1 .left) (refuse-later _ _ _ _ (c .before .before .before .buffer-fits .ensures) _
-    (c .before .before .if2 .left) (refuse-here _ _ _ _ refl (c .if3 .taken)))
+    (c .before .before .if2 .left) (refuse-here _ _ _ _ (c .before .draw-fits .ensures) (c .if3 .taken)))
 
 returns-4 : tie.Need-returns-4
-unfolding rawRefusal drawFits
+unfolding rawRefusal
 returns-4 c = refuse-later _ _ _ _ (c .before .before .before .before .before .registers-fit .ensures) _
     (c .before .before .before .before .if1 .left) (refuse-later _ _ _ _ (c .before .before .before .buffer-fits .ensures) _
-    (c .before .before .if2 .left) (refuse-later _ _ _ _ refl _ (c .if3 .left) refl))
+    (c .before .before .if2 .left) (refuse-later _ _ _ _ (c .before .draw-fits .ensures) _ (c .if3 .left) refl))
 
 pub raw-refusal-spec : {M : Type 1} → statement M
 raw-refusal-spec =
     tie.close
-    (tie.spec registers-fit-requires returns buffer-fits-requires returns-2 returns-3 returns-4)
+    (tie.spec registers-fit-requires returns buffer-fits-requires returns-2 draw-fits-requires returns-3 returns-4)
