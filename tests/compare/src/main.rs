@@ -2,7 +2,9 @@
 //!
 //! Use: compare PROGRAM [SEED] [CASES]
 //!
-//! Every edge case is put whatever the number of cases; random ones fill it up.
+//! Every edge case is put whatever the number of cases; random ones fill it up. There are so many
+//! cases of the single calls, and a little more than half as many each of served accesses, stores
+//! and settings on arbitrary states and of calls in sequences from the start.
 
 mod cases;
 mod comparison;
@@ -13,6 +15,7 @@ mod program;
 mod protocol;
 mod random;
 mod tally;
+mod witness;
 
 use comparison::Comparison;
 use random::Random;
@@ -51,6 +54,12 @@ fn compare(arguments: &Arguments) -> Result<bool, String> {
     let mut comparison = Comparison::start(&arguments.program)?;
     cases::edges(&mut comparison, &mut random);
     cases::at_random(&mut comparison, &mut random, arguments.cases);
+    let over_half = arguments.cases * 11 / 20;
+    let total = comparison.count() + over_half;
+    cases::served_edges(&mut comparison, &mut random);
+    cases::served_at_random(&mut comparison, &mut random, total);
+    let total = comparison.count() + over_half;
+    cases::sequences(&mut comparison, &mut random, total);
     Ok(comparison.finish())
 }
 

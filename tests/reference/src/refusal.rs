@@ -67,7 +67,7 @@ pub fn check_draw(draw: u32) -> Result<(), Refusal> {
 
 /// The first half of number 5: "served access in test mode or with context 63".
 pub fn check_served(registers: Registers) -> Result<(), Refusal> {
-    if registers.test != 0 || registers.context == 63 {
+    if registers.test == 1 || registers.context == 63 {
         return Err(Refusal::TestModeOrContext);
     }
     Ok(())
