@@ -3,8 +3,8 @@
 //! Use: compare PROGRAM [SEED] [CASES]
 //!
 //! Every edge case is put whatever the number of cases; random ones fill it up. There are so many
-//! cases of the single calls, and a little more than half as many each of served accesses, stores
-//! and settings on arbitrary states and of calls in sequences from the start.
+//! cases of the single calls, more than half as many served accesses, stores and settings on
+//! arbitrary states, and some more of these in sequences from the start.
 
 mod cases;
 mod comparison;
@@ -54,11 +54,10 @@ fn compare(arguments: &Arguments) -> Result<bool, String> {
     let mut comparison = Comparison::start(&arguments.program)?;
     cases::edges(&mut comparison, &mut random);
     cases::at_random(&mut comparison, &mut random, arguments.cases);
-    let over_half = arguments.cases * 11 / 20;
-    let total = comparison.count() + over_half;
+    let total = comparison.count() + arguments.cases / 20 * 11;
     cases::served_edges(&mut comparison, &mut random);
     cases::served_at_random(&mut comparison, &mut random, total);
-    let total = comparison.count() + over_half;
+    let total = comparison.count() + arguments.cases / 20 * 13;
     cases::sequences(&mut comparison, &mut random, total);
     Ok(comparison.finish())
 }

@@ -103,7 +103,7 @@ impl Reader {
     /// The base of the access's segment where the linear rule applies to the access.
     pub fn linear_base(&self, access: Access) -> Option<u32> {
         let segment = access.address / 0x1000_0000;
-        if access.user || (self.settings[KSEG] >> segment) % 2 == 0 {
+        if access.user || (self.settings[KSEG] >> segment) & 1 == 0 {
             return None;
         }
         let bases = u64::from(self.settings[KBASE_HI]) << 32 | u64::from(self.settings[KBASE_LO]);
@@ -162,7 +162,7 @@ fn is_given(number: u32, handed: Handed, call: GuardedCall) -> bool {
         (2, Access(_) | Store { .. }) => handed.buffer != 64,
         (3, Access(_) | Store { .. }) => {
             let kilowords = handed.tables / 1024;
-            handed.tables % 1024 != 0 || !(1..=65_536).contains(&kilowords)
+            !handed.tables.is_multiple_of(1024) || !(1..=65_536).contains(&kilowords)
         }
         (4, Access(access)) => access.draw >= 4,
         (5, Access(_)) => handed.registers.test == 1 || handed.registers.context == 63,

@@ -51,7 +51,7 @@ pub fn check_buffer(buffer: &[u64]) -> Result<(), Refusal> {
 
 /// Number 3: "the table run is below 1,024 words, above 67,108,864, or no multiple of 1,024".
 pub fn check_tables(length: usize) -> Result<(), Refusal> {
-    if length < 1024 || length > 67_108_864 || length % 1024 != 0 {
+    if !(1024..=67_108_864).contains(&length) || !length.is_multiple_of(1024) {
         return Err(Refusal::TableLength);
     }
     Ok(())

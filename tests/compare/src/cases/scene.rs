@@ -62,7 +62,7 @@ fn pages(random: &mut Random) -> Vec<(u32, u32)> {
         .map(|_| {
             let page = match random.below(4) {
                 0 => random.bits(19),
-                1 => base ^ 16 * random.bits(3),
+                1 => base ^ (16 * random.bits(3)),
                 2 => (base & !0x3FF) | random.bits(10),
                 _ => base,
             };

@@ -65,11 +65,12 @@ impl Sequence {
             self.ask_for_words(comparison);
         }
         let call = self.next_call(random);
-        let mut request = self.request(call);
         let refused = random.one_in(8);
-        if refused {
-            self.make_refused(random, &mut request);
-        } else if matches!(call, Call::Setting { .. }) && random.one_in(4) {
+        let mut request = match refused {
+            true => self.refused_request(comparison, random, call),
+            false => self.request(call),
+        };
+        if !refused && matches!(call, Call::Setting { .. }) && random.one_in(4) {
             request.buffer = Vec::new();
         }
         let look_at = match step.is_multiple_of(STEPS_TO_ALL_PAGES) {
@@ -83,6 +84,8 @@ impl Sequence {
         let answer = comparison.put_before(Some(witness), request);
         if !was_refused {
             self.go_on(answer, handed_buffer);
+        } else if !self.run_is_kept {
+            ask_for_tables(comparison);
         }
     }
 
@@ -161,23 +164,33 @@ impl Sequence {
         }
     }
 
-    /// Spoils the call as it stands, or makes it one of a wholly different state.
-    fn make_refused(&mut self, random: &mut Random, request: &mut Request) {
-        let possible = spoil::grounds_of(request.call);
-        let mut grounds = spoil::some(random, possible);
-        let without_run: Vec<u32> = grounds.iter().copied().filter(|&n| n != 3).collect();
-        if !random.one_in(4) && !without_run.is_empty() {
-            grounds = without_run;
+    /// The call spoilt, on the state as it is or on a wholly different one. Where it is handed
+    /// another run, the words are asked for before the program forgets them.
+    fn refused_request(
+        &mut self,
+        comparison: &mut Comparison,
+        random: &mut Random,
+        call: Call,
+    ) -> Request {
+        let mut grounds = spoil::some(random, spoil::grounds_of(call));
+        if grounds != [3] && !random.one_in(4) {
+            grounds.retain(|&ground| ground != 3);
         }
+        let other_run = !grounds.contains(&3) && random.one_in(32);
+        if other_run || grounds.contains(&3) {
+            self.ask_for_words(comparison);
+        }
+        let mut request = self.request(call);
         if random.one_in(4) {
             request.registers = state::registers(random).to_words();
             request.buffer = state::buffer(random, SLOTS);
         }
-        let run = self.reader.words().len();
-        spoil::spoil(random, request, run, &grounds);
-        if grounds.contains(&3) {
-            self.run_is_kept = false;
+        if other_run {
+            request.tables = World::new(random).1;
         }
+        spoil::spoil(random, &mut request, self.reader.words().len(), &grounds);
+        self.run_is_kept = !other_run && !grounds.contains(&3);
+        request
     }
 
     /// What the reader and the account say of the call, who are told nothing but the call.
@@ -234,9 +247,6 @@ impl Sequence {
 
     /// Asks for the table run, and has all touched pages looked at.
     fn ask_for_words(&mut self, comparison: &mut Comparison) {
-        if !self.run_is_kept {
-            return ask_for_tables(comparison);
-        }
         let request = self.request(Call::Tables);
         let witness = Witness {
             told: Told::Words(self.reader.words().to_vec()),

@@ -2,7 +2,7 @@
 
 use super::scene::{entry_of, words_found, Scene};
 use super::served_edges::ask_for_tables;
-use super::words::{self, Place};
+use super::words::{self, Numbers, Place};
 use super::{spoil, state};
 use crate::comparison::Comparison;
 use crate::protocol::{Call, Request};
@@ -26,11 +26,15 @@ pub fn random(random: &mut Random, scene: &mut Scene, comparison: &Comparison) -
         Ok(()) if !random.one_in(8) => words::place(random, words, page_id, page),
         _ => Place {
             index: random.below(words.len().max(1)),
+            tree: Tree::Own,
             level: Level::Leaf,
         },
     };
     let value = match words.get(place.index) {
-        Some(_) => words::value(random, words, place),
+        Some(_) => {
+            let numbers = Numbers::inside(random, words.len());
+            words::value(random, words, place, &numbers)
+        }
         None => random.bits(32),
     };
     let registers = Registers {

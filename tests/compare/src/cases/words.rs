@@ -8,6 +8,7 @@ use reference::*;
 #[derive(Clone, Copy)]
 pub struct Place {
     pub index: usize,
+    pub tree: Tree,
     pub level: Level,
 }
 
@@ -40,12 +41,59 @@ pub fn on_the_way(words: &[u32], tree: Tree, page_id: u32, page: u32, level: Lev
         (Level::Directory, Level::Leaf) => (directory, Level::Directory),
         (_, level) => (reached.index, level),
     };
-    Place { index, level }
+    Place { index, tree, level }
+}
+
+/// The numbers of the directories and tables that good words name.
+pub struct Numbers {
+    pub directories: Vec<usize>,
+    pub tables: Vec<usize>,
+}
+
+impl Numbers {
+    /// Any that lie inside a run of this length.
+    pub fn inside(random: &mut Random, length: usize) -> Numbers {
+        let mut some = |stretch| {
+            (0..3)
+                .map(|_| number_inside(random, length, stretch))
+                .collect()
+        };
+        Numbers {
+            directories: some(DIRECTORY_WORDS),
+            tables: some(TABLE_WORDS),
+        }
+    }
+
+    /// A word that lets the walk go on; of a leaf that is there, one field is changed.
+    fn good(&self, random: &mut Random, old: u32, level: Level) -> u32 {
+        match level {
+            Level::Root => PRESENT | random.pick(&self.directories) as u32,
+            Level::Directory => PRESENT | random.pick(&self.tables) as u32,
+            Level::Leaf if old >= PRESENT => old ^ field_bit(random),
+            Level::Leaf => PRESENT | random.bits(31),
+        }
+    }
+
+    fn is_good(&self, word: u32, level: Level) -> bool {
+        let names = |numbers: &[usize]| numbers.contains(&((word ^ PRESENT) as usize));
+        match level {
+            Level::Root => names(&self.directories),
+            Level::Directory => names(&self.tables),
+            Level::Leaf => word >= PRESENT,
+        }
+    }
 }
 
 /// A value for the word: the same again, a good one, one turned absent or present, a broken one.
-pub fn value(random: &mut Random, words: &[u32], place: Place) -> u32 {
+/// A word that stops walks is soon made good, but the global tree is left open half of the time.
+pub fn value(random: &mut Random, words: &[u32], place: Place, numbers: &Numbers) -> u32 {
     let old = words[place.index];
+    if place.tree == Tree::Global && random.one_in(2) {
+        return old & !PRESENT;
+    }
+    if !numbers.is_good(old, place.level) && !random.one_in(4) {
+        return numbers.good(random, old, place.level);
+    }
     match random.below(16) {
         0 => old,
         1..=3 => old ^ PRESENT,
@@ -53,25 +101,13 @@ pub fn value(random: &mut Random, words: &[u32], place: Place) -> u32 {
         5 => random.bits(32),
         6 if place.level == Level::Root => broken(random, words, DIRECTORY_WORDS),
         6 if place.level == Level::Directory => broken(random, words, TABLE_WORDS),
-        _ => good(random, words, place),
+        _ => numbers.good(random, old, place.level),
     }
 }
 
 fn broken(random: &mut Random, words: &[u32], stretch: usize) -> u32 {
     let why = random.pick(&CAUSES);
     broken_word(random, words.len(), why, stretch)
-}
-
-/// A word that lets the walk go on; of a leaf that is there, one field is changed.
-fn good(random: &mut Random, words: &[u32], place: Place) -> u32 {
-    let old = words[place.index];
-    let length = words.len();
-    match place.level {
-        Level::Root => PRESENT | number_inside(random, length, DIRECTORY_WORDS) as u32,
-        Level::Directory => PRESENT | number_inside(random, length, TABLE_WORDS) as u32,
-        Level::Leaf if old >= PRESENT => old ^ field_bit(random),
-        Level::Leaf => PRESENT | random.bits(31),
-    }
 }
 
 /// One bit of a leaf's valid, kernel, we, software or pfn, each as likely as the others.

@@ -1,14 +1,15 @@
 //! The tables, pages and identifications of one sequence, few enough to collide.
 
-use super::forest::{number_inside, Forest, DIRECTORY_WORDS, PRESENT, TABLE_WORDS};
+use super::forest::{Forest, DIRECTORY_WORDS, PRESENT, TABLE_WORDS};
 use super::state;
-use super::words::{self, Place};
+use super::words::{self, Numbers, Place};
 use crate::random::Random;
 use reference::*;
 
 pub struct World {
     ids: Vec<u32>,
     pages: Vec<u32>,
+    numbers: Numbers,
 }
 
 impl World {
@@ -25,6 +26,10 @@ impl World {
                     1024 * random.pick(&tops) + low
                 })
                 .collect(),
+            numbers: match length >= 4096 && !random.one_in(3) {
+                true => apart(),
+                false => Numbers::inside(random, length),
+            },
         };
         let mut forest = Forest::new(random, length);
         if !random.one_in(4) {
@@ -34,29 +39,34 @@ impl World {
         (world, forest.words)
     }
 
-    /// Roots that share a few directories, which share a few tables. The global tree has some of
-    /// the pages, in a half of the worlds through the same tables.
+    /// Roots that share two directories, which share tables. The global tree has some of the
+    /// pages, mostly through a directory of its own.
     fn plant(&self, random: &mut Random, words: &mut [u32]) {
-        let length = words.len();
-        let directories: [usize; 3] =
-            std::array::from_fn(|_| number_inside(random, length, DIRECTORY_WORDS));
-        let tables: [usize; 2] =
-            std::array::from_fn(|_| number_inside(random, length, TABLE_WORDS));
+        let Numbers {
+            directories,
+            tables,
+        } = &self.numbers;
         for &id in &self.ids {
             words[id as usize] = PRESENT | random.pick(&directories[..2]) as u32;
         }
-        words[GLOBAL_ROOT] = match random.below(3) {
+        words[GLOBAL_ROOT] = match random.below(4) {
             0 => 0,
-            _ => PRESENT | random.pick(&directories) as u32,
+            1 => PRESENT | random.pick(directories) as u32,
+            _ => PRESENT | directories[2] as u32,
         };
         for &page in &self.pages {
-            for directory in directories {
+            for &directory in directories {
                 let index = DIRECTORY_WORDS * directory + (page / 1024) as usize;
-                words[index] = PRESENT | random.pick(&tables) as u32;
+                let table = match directory == directories[2] {
+                    true => tables[2],
+                    false => random.pick(tables),
+                };
+                words[index] = PRESENT | table as u32;
             }
-            for table in tables {
+            for &table in tables {
                 let index = TABLE_WORDS * table + (page % 1024) as usize;
-                if index < length && !random.one_in(3) {
+                let is_there = random.one_in(3) || table != tables[2];
+                if is_there && index < words.len() {
                     words[index] = PRESENT | random.bits(31);
                 }
             }
@@ -83,15 +93,25 @@ impl World {
         let place = match random.below(16) {
             0 => Place {
                 index: random.below(words.len()),
+                tree: Tree::Own,
                 level: Level::Leaf,
             },
             1 => Place {
                 index: GLOBAL_ROOT,
+                tree: Tree::Global,
                 level: Level::Root,
             },
             _ => words::place(random, words, id, page),
         };
-        let value = words::value(random, words, place);
+        let value = words::value(random, words, place, &self.numbers);
         (place.index as u32, value)
+    }
+}
+
+/// Directories and tables that do not overlap; two of the three tables are one.
+fn apart() -> Numbers {
+    Numbers {
+        directories: vec![1, 2, 3],
+        tables: vec![2, 2, 3],
     }
 }
