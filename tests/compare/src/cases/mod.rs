@@ -13,6 +13,7 @@ mod spoil;
 mod start;
 mod state;
 mod store;
+mod tables;
 mod walk;
 mod words;
 mod world;
@@ -22,6 +23,7 @@ use crate::comparison::Comparison;
 use crate::protocol::Request;
 use crate::random::Random;
 use scene::Scene;
+use tables::ask_for_tables;
 use walk::Walks;
 
 const CASES_FOR_A_PROCESS: usize = 40_000;
@@ -67,7 +69,7 @@ pub fn at_random(comparison: &mut Comparison, random: &mut Random, total: usize)
 /// Served accesses, stores and settings made on purpose; the first ones find no table run.
 pub fn served_edges(comparison: &mut Comparison, random: &mut Random) {
     comparison.restart();
-    served_edges::ask_for_tables(comparison);
+    ask_for_tables(comparison);
     served_edges::without_run(comparison, random);
     store::without_run(comparison, random);
     served_edges::put(comparison, random);
@@ -103,7 +105,7 @@ pub fn sequences(comparison: &mut Comparison, random: &mut Random, total: usize)
 
 fn put_any_served(comparison: &mut Comparison, random: &mut Random, scene: &mut Scene) {
     let request = match random.below(64) {
-        0 => return served_edges::ask_for_tables(comparison),
+        0 => return ask_for_tables(comparison),
         1..=6 => setting::random(random, comparison.tables().len()),
         7..=36 => store::random(random, scene, comparison),
         _ => served::random(random, scene, comparison),

@@ -1,6 +1,6 @@
 //! Sequences of calls from the start, each before the reader and the account.
 
-use super::served_edges::ask_for_tables;
+use super::tables::ask_for_tables;
 use super::world::World;
 use super::{spoil, state};
 use crate::comparison::Comparison;

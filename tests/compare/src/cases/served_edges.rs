@@ -2,9 +2,10 @@
 
 use super::forest::{endings, Ending, Forest};
 use super::served::{put_not_valid, request};
+use super::tables::ask_for_tables;
 use super::{raw, spoil, state, TOO_LARGE};
 use crate::comparison::Comparison;
-use crate::protocol::{Call, Request};
+use crate::protocol::Call;
 use crate::random::Random;
 use reference::*;
 
@@ -105,16 +106,6 @@ fn grounds_together(comparison: &mut Comparison, random: &mut Random) {
         }
         ask_for_tables(comparison);
     }
-}
-
-/// The table run that the program keeps.
-pub fn ask_for_tables(comparison: &mut Comparison) {
-    comparison.put(Request {
-        call: Call::Tables,
-        registers: Registers::default().to_words(),
-        buffer: Vec::new(),
-        tables: Vec::new(),
-    });
 }
 
 /// Each ending of the global tree with each of the own tree, on buffers with and without the page.

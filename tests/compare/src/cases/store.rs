@@ -1,7 +1,7 @@
 //! Table stores on arbitrary states.
 
 use super::scene::{entry_of, words_found, Scene};
-use super::served_edges::ask_for_tables;
+use super::tables::ask_for_tables;
 use super::words::{self, Numbers, Place};
 use super::{spoil, state};
 use crate::comparison::Comparison;

@@ -27,7 +27,7 @@ pub fn place(random: &mut Random, words: &[u32], page_id: u32, page: u32) -> Pla
 }
 
 /// The word at this level, or the last one that the walk reaches.
-pub fn on_the_way(words: &[u32], tree: Tree, page_id: u32, page: u32, level: Level) -> Place {
+fn on_the_way(words: &[u32], tree: Tree, page_id: u32, page: u32, level: Level) -> Place {
     let root = match tree {
         Tree::Global => GLOBAL_ROOT,
         Tree::Own => page_id as usize,
@@ -110,7 +110,7 @@ fn broken(random: &mut Random, words: &[u32], stretch: usize) -> u32 {
     broken_word(random, words.len(), why, stretch)
 }
 
-/// One bit of a leaf's valid, kernel, we, software or pfn, each as likely as the others.
+/// One bit of a leaf's valid, kernel, we, software or pfn, valid most often.
 fn field_bit(random: &mut Random) -> u32 {
     match random.below(6) {
         0 | 1 => 1 << 30,

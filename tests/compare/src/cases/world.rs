@@ -32,7 +32,7 @@ impl World {
             },
         };
         let mut forest = Forest::new(random, length);
-        if !random.one_in(4) {
+        if random.one_in(2) {
             forest.words.fill(0);
         }
         world.plant(random, &mut forest.words);
