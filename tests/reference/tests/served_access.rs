@@ -78,6 +78,29 @@ fn a_broken_global_tree_hides_an_own_leaf() {
 }
 
 #[test]
+fn absent_at_any_level_of_the_global_tree_goes_to_the_own_tree() {
+    for index in [GLOBAL_ROOT, 2048, Unit::global(PAGE)] {
+        let mut unit = Unit::new();
+        unit.words[Unit::own(PAGE)] = PRESENT | VALID | 7;
+        unit.words[Unit::global(PAGE)] = PRESENT | VALID | 9;
+        unit.words[index] &= !PRESENT;
+        assert_eq!(unit.access(read(PAGE, 0)), (Outcome::At(7 * 8192), 1));
+        assert!(!unit.entry(slot(0, 1)).global);
+    }
+}
+
+#[test]
+fn one_word_can_be_a_directory_word_and_a_leaf() {
+    let mut unit = Unit::new();
+    unit.words[ID as usize] = PRESENT | 2;
+    unit.words[1024] = PRESENT | 1;
+    assert_eq!(unit.access(read(0, 0)), (Outcome::Fault(8), 1));
+    assert_eq!(unit.entry(slot(0, 0)).pfn, 1);
+    unit.registers.ctrl = 4;
+    assert_eq!(unit.access(read(0, 0)), (Outcome::Fault(4), 0));
+}
+
+#[test]
 fn a_matching_global_entry_is_overwritten_whoever_loaded_it() {
     let mut unit = Unit::new();
     unit.words[Unit::global(PAGE)] = PRESENT | 9;
@@ -174,6 +197,14 @@ fn the_refusals_come_in_the_order_of_the_table() {
         unit.access(access).0,
         Outcome::Refused(Refusal::TestModeOrContext)
     );
+}
+
+#[test]
+fn a_draw_above_3_is_refused_even_where_no_draw_is_used() {
+    let mut unit = Unit::new();
+    unit.registers.enable = 0;
+    let outcome = unit.access(read(PAGE, 4)).0;
+    assert_eq!(outcome, Outcome::Refused(Refusal::Draw));
 }
 
 #[test]

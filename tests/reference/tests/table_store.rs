@@ -106,6 +106,14 @@ fn a_shared_table_empties_the_slots_of_all_that_share_it() {
 }
 
 #[test]
+fn a_store_is_taken_in_test_mode_and_under_context_63() {
+    let mut unit = unit_with(0, entry(6, false).pack());
+    unit.registers.test = 1;
+    unit.registers.context = 63;
+    assert_eq!(unit.store(UNUSED, 0), Outcome::Done(1));
+}
+
+#[test]
 fn a_global_leaf_that_comes_empties_the_own_one() {
     let mut unit = unit_with(0, entry(ID, false).pack());
     assert_eq!(unit.store(Unit::global(PAGE), LEAF), Outcome::Done(1));

@@ -20,8 +20,8 @@ pub struct Unit {
 }
 
 impl Unit {
-    /// Enabled under ID after a start; root ID names directory 1, and the global root directory 4.
-    /// Both directories name table 1 and table 3 for the pages below 1,024.
+    /// Enabled under ID after a start. For the pages below 1,024, root ID names directory 1 and
+    /// that table 1; the global root names directory 4 and that table 3.
     pub fn new() -> Unit {
         let mut buffer = vec![0; SLOTS];
         let (done, registers) = start(&mut buffer);
