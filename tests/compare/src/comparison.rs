@@ -1,11 +1,12 @@
 //! Puts every request to both programs and counts what came of it.
 
-use crate::difference;
+use crate::difference::{self, Found};
 use crate::expected;
-use crate::outcome;
+use crate::outcome::{self, Runs};
 use crate::program::Program;
 use crate::protocol::{Answer, Request};
 use crate::tally::Tally;
+use crate::witness::Witness;
 use std::collections::VecDeque;
 use std::rc::Rc;
 
@@ -14,8 +15,10 @@ const ENDS_WELL: &str = "program ends at the end of its input";
 
 struct UnderWay {
     request: Request,
-    tables: Rc<Vec<u32>>,
+    found: Found,
     expected: Answer,
+    outcomes: Vec<String>,
+    witness: Option<Witness>,
 }
 
 pub struct Comparison {
@@ -51,23 +54,52 @@ impl Comparison {
         !self.broken_off && self.put < total
     }
 
-    /// One request more; nothing is asked of a program that has stopped answering.
-    pub fn put(&mut self, mut request: Request) {
-        if self.broken_off {
-            return;
-        }
+    /// How many have been put so far.
+    pub fn count(&self) -> usize {
+        self.put
+    }
+
+    /// The table run that the program keeps.
+    pub fn tables(&self) -> &[u32] {
+        &self.tables
+    }
+
+    /// One request more.
+    pub fn put(&mut self, request: Request) {
+        self.put_before(None, request);
+    }
+
+    /// One request more, before a witness where it belongs to a sequence. The reference's answer
+    /// comes back; nothing is asked of a program that has stopped answering.
+    pub fn put_before(&mut self, witness: Option<Witness>, mut request: Request) -> Answer {
         self.put += 1;
-        self.program.send(request.to_bytes());
+        let bytes = request.to_bytes();
         if !request.tables.is_empty() {
             self.tables = Rc::new(std::mem::take(&mut request.tables));
         }
-        let expected = expected::answer(&request, &self.tables);
+        let before = Rc::clone(&self.tables);
+        let expected = expected::answer(&request, &mut self.tables);
+        if self.broken_off {
+            return expected;
+        }
+        let runs = Runs {
+            before: &before,
+            after: &self.tables,
+        };
+        let outcomes = match witness {
+            None => outcome::of(&request, runs, &expected),
+            Some(_) => outcome::in_sequence(&request, runs, &expected),
+        };
+        self.program.send(bytes);
         self.under_way.push_back(UnderWay {
+            found: Found::by(&request, &before),
             request,
-            tables: Rc::clone(&self.tables),
-            expected,
+            expected: expected.clone(),
+            outcomes,
+            witness,
         });
         self.take_answers();
+        expected
     }
 
     /// Ends this process and starts a fresh one, which has no table run.
@@ -105,9 +137,10 @@ impl Comparison {
     /// Judges the answers that have come; once the input is ended, waits for them all.
     fn take_answers(&mut self) {
         while let Some(case) = self.under_way.pop_front() {
-            let length = Answer::byte_length(case.request.buffer.len());
+            let slots = case.request.buffer.len();
+            let length = Answer::byte_length(slots, case.expected.tables.len());
             match self.program.receive(length) {
-                Ok(Some(bytes)) => self.judge(&case, Some(Answer::from_bytes(&bytes))),
+                Ok(Some(bytes)) => self.judge(&case, Some(Answer::from_bytes(&bytes, slots))),
                 Ok(None) => return self.under_way.push_front(case),
                 Err(problem) => {
                     self.judge(&case, None);
@@ -119,23 +152,35 @@ impl Comparison {
 
     fn judge(&mut self, case: &UnderWay, got: Option<Answer>) {
         let agreed = got.as_ref() == Some(&case.expected);
-        for outcome in outcome::of(&case.request, &case.tables, &case.expected) {
-            self.tally.add(&outcome, agreed);
+        for outcome in &case.outcomes {
+            self.tally.add(outcome, agreed);
         }
         self.cases += 1;
+        if let (Some(witness), Some(got)) = (&case.witness, &got) {
+            self.hear(witness, case, got);
+        }
         if agreed || self.printed == MOST_PRINTED {
             return;
         }
         self.printed += 1;
         match got {
-            Some(got) => difference::print(
-                self.cases,
-                &case.request,
-                &case.tables,
-                &case.expected,
-                &got,
-            ),
+            Some(got) => {
+                let (request, expected) = (&case.request, &case.expected);
+                difference::print(self.cases, request, &case.found, expected, &got)
+            }
             None => println!("no answer at case {}: {:X?}", self.cases, case.request.call),
+        }
+    }
+
+    /// What the witness of a sequence says of an answer, each of its points counted by itself.
+    fn hear(&mut self, witness: &Witness, case: &UnderWay, got: &Answer) {
+        for (point, holds) in witness.points(got) {
+            self.tally.add(point, holds);
+            if !holds && self.printed < MOST_PRINTED {
+                self.printed += 1;
+                println!("at case {}: {:X?}", self.cases, case.request.call);
+                println!("  does not hold: {point}");
+            }
         }
     }
 

@@ -2,16 +2,43 @@
 
 use crate::expected::walk_is_possible;
 use crate::protocol::{Answer, Call, Request};
-use reference::{location, slots_of, vpn, walk, Access, FIELDS, FIELD_NAMES, SLOTS};
+use reference::{location, slots_of, vpn, walk, Access, Walk, FIELDS, FIELD_NAMES, SLOTS};
 
-pub fn print(case: usize, request: &Request, tables: &[u32], expected: &Answer, got: &Answer) {
+/// What is worth telling of the table run that a call found.
+pub struct Found {
+    words: usize,
+    walk: Option<Walk>,
+}
+
+impl Found {
+    pub fn by(request: &Request, tables: &[u32]) -> Found {
+        let page = match request.call {
+            Call::Walk { page_id, vpn } => Some((page_id, vpn)),
+            Call::Served(access) => Some((request.registers[5], vpn(access.address))),
+            _ => None,
+        };
+        Found {
+            words: tables.len(),
+            walk: page
+                .filter(|&(page_id, vpn)| walk_is_possible(page_id, vpn, tables))
+                .map(|(page_id, vpn)| walk(tables, page_id, vpn)),
+        }
+    }
+}
+
+pub fn print(case: usize, request: &Request, found: &Found, expected: &Answer, got: &Answer) {
     println!("difference at case {case}: {:X?}", request.call);
     println!("  registers before: {}", registers(&request.registers));
     println!("  buffer of {} numbers", request.buffer.len());
+    println!("  table run of {} words", found.words);
     match request.call {
-        Call::Raw(access) if request.buffer.len() == SLOTS => print_slots(access, &request.buffer),
-        Call::Walk { page_id, vpn } => print_walk(page_id, vpn, tables),
+        Call::Raw(access) | Call::Served(access) if request.buffer.len() == SLOTS => {
+            print_slots(access, &request.buffer)
+        }
         _ => {}
+    }
+    if let Some(walk) = found.walk {
+        println!("  reference walks to {walk:X?}");
     }
     println!("  reference answers {:X?}", expected.words);
     println!("  program answers   {:X?}", got.words);
@@ -27,20 +54,17 @@ pub fn print(case: usize, request: &Request, tables: &[u32], expected: &Answer, 
             println!("  buffer[{n}] was {before:X}, after: reference {ours:X}, program {theirs:X}");
         }
     }
+    for (n, (ours, theirs)) in expected.tables.iter().zip(&got.tables).enumerate() {
+        if ours != theirs {
+            println!("  table word {n}: reference {ours:X}, program {theirs:X}");
+        }
+    }
 }
 
 /// The four slots that the access searches.
 fn print_slots(access: Access, buffer: &[u64]) {
     for slot in slots_of(location(vpn(access.address))) {
         println!("  buffer[{slot}] is {:X}", buffer[slot]);
-    }
-}
-
-/// The word that decides the reference's walk.
-fn print_walk(page_id: u32, vpn: u32, tables: &[u32]) {
-    println!("  table run of {} words", tables.len());
-    if walk_is_possible(page_id, vpn, tables) {
-        println!("  reference walks to {:X?}", walk(tables, page_id, vpn));
     }
 }
 

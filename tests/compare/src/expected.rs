@@ -2,19 +2,23 @@
 
 use crate::protocol::{Answer, Call, Request};
 use reference::*;
+use std::rc::Rc;
 
-const DONE: u32 = 2;
-const REFUSED: u32 = 3;
+pub const AT: u32 = 0;
+pub const FAULT: u32 = 1;
+pub const DONE: u32 = 2;
+pub const REFUSED: u32 = 3;
 
 /// Whether the walk call takes these arguments at all.
 pub fn walk_is_possible(page_id: u32, vpn: u32, tables: &[u32]) -> bool {
     page_id <= 63 && vpn <= 524_287 && tables.len() >= 64
 }
 
-/// The tables are those of the request, or the ones kept from an earlier request.
-pub fn answer(request: &Request, tables: &[u32]) -> Answer {
+/// The tables are those of the request, or the ones that an earlier request left.
+pub fn answer(request: &Request, tables: &mut Rc<Vec<u32>>) -> Answer {
     let registers = Registers::from_words(request.registers);
     let mut buffer = request.buffer.clone();
+    let mut kept = Vec::new();
     let (words, registers) = match request.call {
         Call::Start => {
             let (done, registers) = start(&mut buffer);
@@ -33,12 +37,37 @@ pub fn answer(request: &Request, tables: &[u32]) -> Answer {
             (words_of_walk(walk(tables, page_id, vpn)), registers)
         }
         Call::Walk { .. } => ([3, 0, 0, 0], registers),
+        Call::Served(access) => {
+            words_of_reply(served_access(registers, &mut buffer, tables, access))
+        }
+        Call::Store { index, value } => {
+            let tables = Rc::make_mut(tables);
+            words_of_reply(table_store(registers, &mut buffer, tables, index, value))
+        }
+        Call::Setting { number, value } => {
+            words_of_reply(guarded_setting(registers, number, value))
+        }
+        Call::Tables => {
+            kept = tables.to_vec();
+            ([tables.len() as u32, 0, 0, 0], registers)
+        }
     };
     Answer {
         words,
         registers: registers.to_words(),
         buffer,
+        tables: kept,
     }
+}
+
+fn words_of_reply(reply: Reply) -> ([u32; 4], Registers) {
+    let (word, value) = match reply.outcome {
+        Outcome::At(address) => (AT, address),
+        Outcome::Fault(value) => (FAULT, value),
+        Outcome::Done(value) => (DONE, value),
+        Outcome::Refused(refusal) => (REFUSED, refusal.number()),
+    };
+    ([word, value, reply.loads, 0], reply.registers)
 }
 
 fn words_of_done(done: Result<(), Refusal>) -> [u32; 4] {

@@ -2,7 +2,9 @@
 //!
 //! Use: compare PROGRAM [SEED] [CASES]
 //!
-//! Every edge case is put whatever the number of cases; random ones fill it up.
+//! Every edge case is put whatever the number of cases; random ones fill it up. There are so many
+//! cases of the single calls, more than half as many served accesses, stores and settings on
+//! arbitrary states, and some more of these in sequences from the start.
 
 mod cases;
 mod comparison;
@@ -13,6 +15,7 @@ mod program;
 mod protocol;
 mod random;
 mod tally;
+mod witness;
 
 use comparison::Comparison;
 use random::Random;
@@ -51,6 +54,11 @@ fn compare(arguments: &Arguments) -> Result<bool, String> {
     let mut comparison = Comparison::start(&arguments.program)?;
     cases::edges(&mut comparison, &mut random);
     cases::at_random(&mut comparison, &mut random, arguments.cases);
+    let total = comparison.count() + arguments.cases / 20 * 11;
+    cases::served_edges(&mut comparison, &mut random);
+    cases::served_at_random(&mut comparison, &mut random, total);
+    let total = comparison.count() + arguments.cases / 20 * 13;
+    cases::sequences(&mut comparison, &mut random, total);
     Ok(comparison.finish())
 }
 

@@ -12,9 +12,13 @@ const PATIENCE: Duration = Duration::from_secs(20);
 /// A program that never stops writing is held back here, and fills no memory.
 const MOST_PIECES_UNREAD: usize = 64;
 
+/// Requests are written in blocks of about this many bytes.
+const BLOCK: usize = 65536;
+
 pub struct Program {
     child: Child,
     requests: Option<Sender<Vec<u8>>>,
+    block: Vec<u8>,
     answers: Receiver<Vec<u8>>,
     unread: VecDeque<u8>,
 }
@@ -36,20 +40,31 @@ impl Program {
         Ok(Program {
             child,
             requests: Some(requests),
+            block: Vec::new(),
             answers,
             unread: VecDeque::new(),
         })
     }
 
-    /// Hands bytes to the writing thread; a dead program shows when its answers are read.
+    /// Hands bytes to the writing thread, a block at a time; a dead program shows when its
+    /// answers are read.
     pub fn send(&mut self, bytes: Vec<u8>) {
+        self.block.extend(bytes);
+        if self.block.len() >= BLOCK {
+            self.send_block();
+        }
+    }
+
+    fn send_block(&mut self) {
+        let block = std::mem::take(&mut self.block);
         if let Some(requests) = &self.requests {
-            let _ = requests.send(bytes);
+            let _ = requests.send(block);
         }
     }
 
     /// Ends the input; from now on `receive` waits.
     pub fn end_input(&mut self) {
+        self.send_block();
         self.requests = None;
     }
 

@@ -6,9 +6,28 @@ use reference::{Access, FIELDS};
 pub enum Call {
     Start,
     Raw(Access),
-    Write { number: u32, value: u32 },
-    Read { number: u32 },
-    Walk { page_id: u32, vpn: u32 },
+    Write {
+        number: u32,
+        value: u32,
+    },
+    Read {
+        number: u32,
+    },
+    Walk {
+        page_id: u32,
+        vpn: u32,
+    },
+    Served(Access),
+    Store {
+        index: u32,
+        value: u32,
+    },
+    Setting {
+        number: u32,
+        value: u32,
+    },
+    /// Asks for the table run that the program keeps.
+    Tables,
 }
 
 impl Call {
@@ -16,18 +35,21 @@ impl Call {
     fn words(self) -> [u32; 5] {
         match self {
             Call::Start => [0; 5],
-            Call::Raw(access) => [
-                1,
-                access.address,
-                u32::from(access.user),
-                u32::from(access.write),
-                access.draw,
-            ],
+            Call::Raw(access) => words_of_access(1, access),
             Call::Write { number, value } => [2, number, value, 0, 0],
             Call::Read { number } => [3, number, 0, 0, 0],
             Call::Walk { page_id, vpn } => [4, page_id, vpn, 0, 0],
+            Call::Served(access) => words_of_access(5, access),
+            Call::Store { index, value } => [6, index, value, 0, 0],
+            Call::Setting { number, value } => [7, number, value, 0, 0],
+            Call::Tables => [8, 0, 0, 0, 0],
         }
     }
+}
+
+fn words_of_access(kind: u32, access: Access) -> [u32; 5] {
+    let (user, write) = (u32::from(access.user), u32::from(access.write));
+    [kind, access.address, user, write, access.draw]
 }
 
 #[derive(Clone, Debug)]
@@ -35,7 +57,7 @@ pub struct Request {
     pub call: Call,
     pub registers: [u32; FIELDS],
     pub buffer: Vec<u64>,
-    /// An empty run keeps the table run of the last request that had one.
+    /// An empty run keeps the table run as the last request left it.
     pub tables: Vec<u32>,
 }
 
@@ -59,26 +81,30 @@ pub struct Answer {
     pub words: [u32; 4],
     pub registers: [u32; FIELDS],
     pub buffer: Vec<u64>,
+    /// Empty but where the table run was asked for.
+    pub tables: Vec<u32>,
 }
 
 impl Answer {
-    pub fn byte_length(slots: usize) -> usize {
-        4 * (4 + FIELDS) + 8 * slots
+    pub fn byte_length(slots: usize, words: usize) -> usize {
+        4 * (4 + FIELDS) + 8 * slots + 4 * words
     }
 
     /// Takes exactly `byte_length` bytes apart.
-    pub fn from_bytes(bytes: &[u8]) -> Answer {
+    pub fn from_bytes(bytes: &[u8], slots: usize) -> Answer {
         let (head, tail) = bytes.split_at(4 * (4 + FIELDS));
+        let (buffer, tables) = tail.split_at(8 * slots);
         let head: Vec<u32> = head.chunks_exact(4).map(word_of).collect();
         Answer {
             words: std::array::from_fn(|n| head[n]),
             registers: std::array::from_fn(|n| head[4 + n]),
-            buffer: tail
+            buffer: buffer
                 .chunks_exact(8)
                 .map(|eight| {
                     (u64::from(word_of(&eight[..4])) << 32) | u64::from(word_of(&eight[4..]))
                 })
                 .collect(),
+            tables: tables.chunks_exact(4).map(word_of).collect(),
         }
     }
 }
@@ -120,11 +146,12 @@ mod tests {
 
     #[test]
     fn an_answer_is_taken_apart_in_order() {
-        let length = Answer::byte_length(1);
+        let length = Answer::byte_length(1, 1);
         let bytes: Vec<u8> = (0..length as u8).collect();
-        let answer = Answer::from_bytes(&bytes);
+        let answer = Answer::from_bytes(&bytes, 1);
         assert_eq!(answer.words[3], 0x0C0D_0E0F);
         assert_eq!(answer.registers[0], 0x1011_1213);
         assert_eq!(answer.buffer, [0x3C3D_3E3F_4041_4243]);
+        assert_eq!(answer.tables, [0x4445_4647]);
     }
 }

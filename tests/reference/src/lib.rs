@@ -3,24 +3,45 @@
 //! Each module is one heading of that paper, and quotes its words where a
 //! sentence decides. Nothing here is meant to be fast.
 
+mod account;
 mod address;
 mod entry;
+mod guarded;
+mod leaf;
+mod load;
 mod raw;
+mod reader;
 mod refusal;
 mod register_read;
 mod register_write;
 mod registers;
+mod reply;
 mod search;
+mod served;
 mod start;
+mod store;
+mod sweep;
 mod walk;
 
+pub use account::Account;
 pub use address::{location, offset, segment, slot, slots_of, vpn, vpn15, LOCATIONS, SETS, SLOTS};
 pub use entry::Entry;
+pub use guarded::guarded_setting;
+pub use leaf::Leaf;
+pub use load::{is_of_page, load, slot_to_load};
 pub use raw::{raw_access, translate, Access, RawAnswer, Translation, EXCEPTION_MISS};
-pub use refusal::{check_buffer, check_draw, check_number, check_registers, Refusal};
+pub use reader::{GuardedCall, Handed, Reader, Said, SETTINGS};
+pub use refusal::{
+    check_buffer, check_draw, check_index, check_number, check_registers, check_served,
+    check_setting, check_switch, check_tables, Refusal,
+};
 pub use register_read::read_register;
 pub use register_write::write_register;
 pub use registers::{fits, Registers, FIELDS, FIELD_BITS, FIELD_NAMES};
+pub use reply::{Outcome, Reply};
 pub use search::{hits, is_hit};
+pub use served::{served_access, FAULT_ABSENT, FAULT_BROKEN};
 pub use start::start;
+pub use store::table_store;
+pub use sweep::{is_kept, leaf_of, sweep, vpn_of};
 pub use walk::{walk, walk_tree, Decided, Level, Tree, Walk, WhyBroken, GLOBAL_ROOT};

@@ -3,11 +3,17 @@
 use crate::address::SLOTS;
 use crate::registers::{fits, Registers, FIELD_BITS};
 
+/// The last of the guarded settings' numbers.
+const CONTEXT: u32 = 5;
+
 #[derive(Clone, Copy, Debug, PartialEq, Eq)]
 pub enum Refusal {
     RegisterField,
     BufferLength,
+    TableLength,
     Draw,
+    TestModeOrContext,
+    WordIndex,
     RegisterNumber,
 }
 
@@ -16,7 +22,10 @@ impl Refusal {
         match self {
             Refusal::RegisterField => 1,
             Refusal::BufferLength => 2,
+            Refusal::TableLength => 3,
             Refusal::Draw => 4,
+            Refusal::TestModeOrContext => 5,
+            Refusal::WordIndex => 6,
             Refusal::RegisterNumber => 7,
         }
     }
@@ -40,6 +49,14 @@ pub fn check_buffer(buffer: &[u64]) -> Result<(), Refusal> {
     Ok(())
 }
 
+/// Number 3: "the table run is below 1,024 words, above 67,108,864, or no multiple of 1,024".
+pub fn check_tables(length: usize) -> Result<(), Refusal> {
+    if !(1024..=67_108_864).contains(&length) || !length.is_multiple_of(1024) {
+        return Err(Refusal::TableLength);
+    }
+    Ok(())
+}
+
 /// Number 4: "draw above 3".
 pub fn check_draw(draw: u32) -> Result<(), Refusal> {
     if draw > 3 {
@@ -48,9 +65,42 @@ pub fn check_draw(draw: u32) -> Result<(), Refusal> {
     Ok(())
 }
 
+/// The first half of number 5: "served access in test mode or with context 63".
+pub fn check_served(registers: Registers) -> Result<(), Refusal> {
+    if registers.test == 1 || registers.context == 63 {
+        return Err(Refusal::TestModeOrContext);
+    }
+    Ok(())
+}
+
+/// The second half of number 5: "guarded switch above 62". Other settings are no switch.
+pub fn check_switch(number: u32, value: u32) -> Result<(), Refusal> {
+    if number == CONTEXT && value > 62 {
+        return Err(Refusal::TestModeOrContext);
+    }
+    Ok(())
+}
+
+/// Number 6: "word index at or past the run's length".
+pub fn check_index(index: u32, length: usize) -> Result<(), Refusal> {
+    if index as usize >= length {
+        return Err(Refusal::WordIndex);
+    }
+    Ok(())
+}
+
 /// The first half of number 7: "unknown register number". The cause has no number.
 pub fn check_number(number: u32) -> Result<(), Refusal> {
     if number > 9 {
+        return Err(Refusal::RegisterNumber);
+    }
+    Ok(())
+}
+
+/// Number 7 of a guarded setting: "every other register number is unknown" but those of KSEG,
+/// CTRL, ENABLE, KBASE_LO, KBASE_HI and CONTEXT, "or a value too large for it".
+pub fn check_setting(number: u32, value: u32) -> Result<(), Refusal> {
+    if number > CONTEXT || !fits(value, FIELD_BITS[number as usize]) {
         return Err(Refusal::RegisterNumber);
     }
     Ok(())

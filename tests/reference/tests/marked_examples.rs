@@ -77,6 +77,29 @@ fn examples_3_and_4_empty_slots() {
 }
 
 #[test]
+fn example_5_an_own_leaf_loaded() {
+    let mut words = vec![0; 2048];
+    words[5] = 0x8000_0001;
+    words[512] = 0x8000_0001;
+    words[1025] = 0xD000_0123;
+    let registers = Registers {
+        enable: 1,
+        context: 5,
+        ..Registers::default()
+    };
+    let mut buffer = start_buffer();
+    let access = Access {
+        address: 8192,
+        user: false,
+        write: false,
+        draw: 1,
+    };
+    let reply = served_access(registers, &mut buffer, &words, access);
+    assert_eq!((reply.outcome, reply.loads), (Outcome::At(0x123 * 8192), 1));
+    assert_eq!(buffer[slot(1, 1)], 0x02A8_0123);
+}
+
+#[test]
 fn examples_6_and_7_linear_segments() {
     let (answer, _) = access_of_examples_6_to_8(0xC000_1234, false);
     assert_eq!(answer.address, Some(0x7000_1234));

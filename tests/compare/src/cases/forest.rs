@@ -14,7 +14,7 @@ pub enum Ending {
     Leaf,
 }
 
-const CAUSES: [WhyBroken; 4] = [
+pub const CAUSES: [WhyBroken; 4] = [
     WhyBroken::ReservedBits,
     WhyBroken::NumberZero,
     WhyBroken::WhollyOutside,
@@ -33,9 +33,9 @@ pub fn endings() -> Vec<Ending> {
     endings
 }
 
-const PRESENT: u32 = 1 << 31;
-const DIRECTORY_WORDS: usize = 512;
-const TABLE_WORDS: usize = 1024;
+pub const PRESENT: u32 = 1 << 31;
+pub const DIRECTORY_WORDS: usize = 512;
+pub const TABLE_WORDS: usize = 1024;
 
 pub struct Forest {
     pub words: Vec<u32>,
@@ -56,20 +56,20 @@ impl Forest {
         let directory = match ending {
             Ending::AbsentRoot => return self.set(root, absent_word(random)),
             Ending::BrokenRoot(why) => {
-                let word = self.broken_word(random, why, DIRECTORY_WORDS);
+                let word = broken_word(random, self.words.len(), why, DIRECTORY_WORDS);
                 return self.set(root, word);
             }
-            _ => self.number_inside(random, DIRECTORY_WORDS),
+            _ => number_inside(random, self.words.len(), DIRECTORY_WORDS),
         };
         self.set(root, PRESENT | directory as u32);
         let place = DIRECTORY_WORDS * directory + (page / 1024) as usize;
         let table = match ending {
             Ending::AbsentDirectory => return self.set(place, absent_word(random)),
             Ending::BrokenDirectory(why) => {
-                let word = self.broken_word(random, why, TABLE_WORDS);
+                let word = broken_word(random, self.words.len(), why, TABLE_WORDS);
                 return self.set(place, word);
             }
-            _ => self.number_inside(random, TABLE_WORDS),
+            _ => number_inside(random, self.words.len(), TABLE_WORDS),
         };
         self.set(place, PRESENT | table as u32);
         let leaf = match ending {
@@ -94,37 +94,37 @@ impl Forest {
             *place = word;
         }
     }
+}
 
-    /// The number of a stretch wholly inside the run, often the last one.
-    fn number_inside(&self, random: &mut Random, stretch: usize) -> usize {
-        let last = (self.words.len() / stretch).saturating_sub(1);
-        match last {
-            0 | 1 => 1,
-            _ if random.one_in(3) => last,
-            _ => 1 + random.below(last),
-        }
+/// The number of a stretch wholly inside a run of this length, often the last one.
+pub fn number_inside(random: &mut Random, length: usize, stretch: usize) -> usize {
+    let last = (length / stretch).saturating_sub(1);
+    match last {
+        0 | 1 => 1,
+        _ if random.one_in(3) => last,
+        _ => 1 + random.below(last),
     }
+}
 
-    fn broken_word(&self, random: &mut Random, why: WhyBroken, stretch: usize) -> u32 {
-        let length = self.words.len();
-        let first_outside = length.div_ceil(stretch);
-        match why {
-            WhyBroken::ReservedBits => {
-                let number = self.number_inside(random, stretch) as u32;
-                PRESENT | reserved_bits(random) | number
-            }
-            WhyBroken::NumberZero => PRESENT,
-            WhyBroken::WhollyOutside => {
-                let number = match random.below(4) {
-                    0 => first_outside,
-                    1 => first_outside + random.below(65536 - first_outside),
-                    2 => self.number_inside(random, stretch) | 1 << (5 + random.below(11)),
-                    _ => 65535,
-                };
-                PRESENT | number as u32
-            }
-            WhyBroken::PartlyOutside => PRESENT | (length / stretch) as u32,
+/// A present root or directory word that is broken in a run of this length.
+pub fn broken_word(random: &mut Random, length: usize, why: WhyBroken, stretch: usize) -> u32 {
+    let first_outside = length.div_ceil(stretch);
+    match why {
+        WhyBroken::ReservedBits => {
+            let number = number_inside(random, length, stretch) as u32;
+            PRESENT | reserved_bits(random) | number
         }
+        WhyBroken::NumberZero => PRESENT,
+        WhyBroken::WhollyOutside => {
+            let number = match random.below(4) {
+                0 => first_outside,
+                1 => first_outside + random.below(65536 - first_outside),
+                2 => number_inside(random, length, stretch) | 1 << (5 + random.below(11)),
+                _ => 65535,
+            };
+            PRESENT | number as u32
+        }
+        WhyBroken::PartlyOutside => PRESENT | (length / stretch) as u32,
     }
 }
 

@@ -4,17 +4,30 @@ mod forest;
 mod raw;
 mod raw_edges;
 mod read;
+mod scene;
+mod sequence;
+mod served;
+mod served_edges;
+mod setting;
+mod spoil;
 mod start;
 mod state;
+mod store;
+mod tables;
 mod walk;
+mod words;
+mod world;
 mod write;
 
 use crate::comparison::Comparison;
 use crate::protocol::Request;
 use crate::random::Random;
+use scene::Scene;
+use tables::ask_for_tables;
 use walk::Walks;
 
 const CASES_FOR_A_PROCESS: usize = 40_000;
+const SEQUENCES_FOR_A_PROCESS: usize = 20;
 
 /// Register numbers and draws that are too large, some of them small once cut to fewer bits.
 const TOO_LARGE: [u32; 10] = [
@@ -40,7 +53,7 @@ pub fn edges(comparison: &mut Comparison, random: &mut Random) {
     walk::edges(comparison, random);
 }
 
-/// Random cases of all calls mixed, until the total is reached, a part for each process.
+/// Random cases of the single calls mixed, until the total is reached, a part for each process.
 pub fn at_random(comparison: &mut Comparison, random: &mut Random, total: usize) {
     while comparison.wants_more(total) {
         comparison.restart();
@@ -51,6 +64,53 @@ pub fn at_random(comparison: &mut Comparison, random: &mut Random, total: usize)
             }
         }
     }
+}
+
+/// Served accesses, stores and settings made on purpose; the first ones find no table run.
+pub fn served_edges(comparison: &mut Comparison, random: &mut Random) {
+    comparison.restart();
+    ask_for_tables(comparison);
+    served_edges::without_run(comparison, random);
+    store::without_run(comparison, random);
+    served_edges::put(comparison, random);
+    store::edges(comparison, random);
+    setting::edges(comparison, random);
+}
+
+/// Random served accesses, stores and settings of arbitrary states, until the total is reached.
+pub fn served_at_random(comparison: &mut Comparison, random: &mut Random, total: usize) {
+    while comparison.wants_more(total) {
+        comparison.restart();
+        let mut scene = Scene::default();
+        for _ in 0..CASES_FOR_A_PROCESS {
+            if comparison.wants_more(total) {
+                put_any_served(comparison, random, &mut scene);
+            }
+        }
+    }
+}
+
+/// Sequences from the start, until the total is reached, some to each process.
+pub fn sequences(comparison: &mut Comparison, random: &mut Random, total: usize) {
+    while comparison.wants_more(total) {
+        comparison.restart();
+        for _ in 0..SEQUENCES_FOR_A_PROCESS {
+            if comparison.wants_more(total) {
+                let steps = 200 + random.below(1800);
+                sequence::put(comparison, random, steps);
+            }
+        }
+    }
+}
+
+fn put_any_served(comparison: &mut Comparison, random: &mut Random, scene: &mut Scene) {
+    let request = match random.below(64) {
+        0 => return ask_for_tables(comparison),
+        1..=6 => setting::random(random, comparison.tables().len()),
+        7..=36 => store::random(random, scene, comparison),
+        _ => served::random(random, scene, comparison),
+    };
+    comparison.put(request);
 }
 
 fn any_case(random: &mut Random, walks: &mut Walks) -> Request {

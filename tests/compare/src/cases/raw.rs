@@ -34,7 +34,7 @@ pub fn random(random: &mut Random) -> Request {
     request(registers, buffer, access)
 }
 
-fn too_large_draw(random: &mut Random) -> u32 {
+pub fn too_large_draw(random: &mut Random) -> u32 {
     match random.below(4) {
         0 => 4,
         1 => random.pick(&TOO_LARGE),
@@ -44,7 +44,7 @@ fn too_large_draw(random: &mut Random) -> u32 {
 }
 
 /// Fills the page's four slots: a wanted number of hits, the rest near misses.
-fn furnish(random: &mut Random, buffer: &mut [u64], registers: Registers, page: u32) {
+pub fn furnish(random: &mut Random, buffer: &mut [u64], registers: Registers, page: u32) {
     let wanted = random.pick(&[0, 0, 0, 1, 1, 1, 1, 2, 3, 4]);
     let first = random.below(SETS);
     for n in 0..SETS {

@@ -3,12 +3,25 @@
 mod raw;
 mod read;
 mod refused;
+mod served;
+mod setting;
 mod start;
+mod store;
+mod sweep;
+mod tables;
 mod walk;
 mod write;
 
 use crate::protocol::{Answer, Call, Request};
+use crate::witness;
 use reference::Registers;
+
+/// The table run as a call finds it and as it leaves it.
+#[derive(Clone, Copy)]
+pub struct Runs<'a> {
+    pub before: &'a [u32],
+    pub after: &'a [u32],
+}
 
 /// Every outcome that has to happen.
 pub fn all() -> Vec<String> {
@@ -18,20 +31,52 @@ pub fn all() -> Vec<String> {
         write::all(),
         read::all(),
         walk::all(),
+        served::all(),
+        store::all(),
+        setting::all(),
+        tables::all(),
+        witness::all(),
     ]
     .concat()
 }
 
-pub fn of(request: &Request, tables: &[u32], expected: &Answer) -> Vec<String> {
+pub fn of(request: &Request, runs: Runs, expected: &Answer) -> Vec<String> {
     let registers = Registers::from_words(request.registers);
-    let number = expected.words[1];
+    let buffer = &request.buffer;
+    let refused_with = expected.words[1];
     match request.call {
-        Call::Start => start::of(registers, &request.buffer, number),
-        Call::Raw(access) => raw::of(registers, &request.buffer, access, number),
-        Call::Write { number: n, value } => {
-            write::of(registers, &request.buffer, (n, value), number)
+        Call::Start => start::of(registers, buffer, refused_with),
+        Call::Raw(access) => raw::of(registers, buffer, access, refused_with),
+        Call::Write { number, value } => {
+            write::of(registers, buffer, (number, value), refused_with)
         }
-        Call::Read { number: n } => read::of(registers, &request.buffer, n, number),
-        Call::Walk { page_id, vpn } => walk::of(tables, page_id, vpn),
+        Call::Read { number } => read::of(registers, buffer, number, refused_with),
+        Call::Walk { page_id, vpn } => walk::of(runs.before, page_id, vpn),
+        Call::Served(access) => served::of(registers, buffer, runs.before, access, expected),
+        Call::Store { index, value } => {
+            store::of(registers, buffer, runs, (index, value), expected)
+        }
+        Call::Setting { number, value } => {
+            setting::of(registers, request, (number, value), runs, expected)
+        }
+        Call::Tables => tables::of(runs.before),
+    }
+}
+
+/// The outcomes of a call that stands in a sequence.
+pub fn in_sequence(request: &Request, runs: Runs, expected: &Answer) -> Vec<String> {
+    let registers = Registers::from_words(request.registers);
+    let buffer = &request.buffer;
+    match request.call {
+        Call::Served(access) => {
+            served::in_sequence(registers, buffer, runs.before, access, expected)
+        }
+        Call::Store { index, value } => {
+            store::in_sequence(registers, buffer, runs, (index, value), expected)
+        }
+        Call::Setting { number, value } => {
+            setting::in_sequence(registers, (number, value), expected)
+        }
+        _ => Vec::new(),
     }
 }

@@ -18,7 +18,7 @@ pub fn all() -> Vec<String> {
     let mut all = refused::all_sets_of_grounds(CALL, &[1, 2, 4]);
     all.extend(refused::all_fields(CALL));
     all.extend(refused::all_lengths(CALL));
-    all.extend([4, 5, u32::MAX].map(refused_draw));
+    all.extend(refused::all_draws(CALL));
     for row in [(0, 0), (0, 1), (1, 0), (1, 1)] {
         all.push(in_row(row));
         all.extend(all_translations().map(|translation| translation_in_row(row, translation)));
@@ -73,7 +73,7 @@ pub fn of(registers: Registers, buffer: &[u64], access: Access, number: u32) -> 
     }
     outcomes.push(refused::set_of_grounds(CALL, &grounds, number));
     if grounds == [4] {
-        outcomes.push(refused_draw(access.draw));
+        outcomes.push(refused::draw_of(CALL, access.draw));
     }
     outcomes
 }
@@ -201,11 +201,4 @@ fn miss_with_draw(draw: u32) -> String {
 
 fn miss_by(field: &str, bit: u32) -> String {
     format!("raw access, miss by {field} bit {bit} alone")
-}
-
-fn refused_draw(draw: u32) -> String {
-    match draw {
-        4 | u32::MAX => format!("raw access refused 4, draw {draw}"),
-        _ => "raw access refused 4, another draw".to_string(),
-    }
 }

@@ -79,6 +79,45 @@ pub fn of_length(call: &str, buffer: &[u64], grounds: &[u32]) -> Vec<String> {
     Vec::new()
 }
 
+/// The table run lengths that are refused, by kind, but that of no words; longer runs than 16,384
+/// words are not tried.
+pub fn all_runs(call: &str) -> Vec<String> {
+    [1, 64, 1023, 1025, 1536]
+        .map(|words| wrong_run(call, words))
+        .to_vec()
+}
+
+pub fn of_run(call: &str, words: usize, grounds: &[u32]) -> Vec<String> {
+    match grounds {
+        [3] => vec![wrong_run(call, words)],
+        _ => Vec::new(),
+    }
+}
+
+pub fn wrong_run(call: &str, words: usize) -> String {
+    let kind = match words {
+        0 => "of no words",
+        1..=63 => "of 1 to 63 words",
+        1023 => "of 1023 words",
+        64..=1022 => "of 64 to 1022 words",
+        _ if words.is_multiple_of(512) => "a multiple of 512 alone",
+        _ => "no multiple of 512",
+    };
+    format!("{call} refused 3, run {kind}")
+}
+
+/// Outcomes of a draw above 3.
+pub fn all_draws(call: &str) -> Vec<String> {
+    [4, 5, u32::MAX].map(|draw| draw_of(call, draw)).to_vec()
+}
+
+pub fn draw_of(call: &str, draw: u32) -> String {
+    match draw {
+        4 | u32::MAX => format!("{call} refused 4, draw {draw}"),
+        _ => format!("{call} refused 4, another draw"),
+    }
+}
+
 /// Outcomes of a register number that is none.
 pub fn all_unknown_numbers(call: &str) -> Vec<String> {
     [10, 11, u32::MAX]

@@ -142,7 +142,7 @@ fn impossible(words: &[u32], page_id: u32, vpn: u32) -> Vec<String> {
     outcomes
 }
 
-fn name(level: Level) -> &'static str {
+pub fn name(level: Level) -> &'static str {
     match level {
         Level::Root => "root",
         Level::Directory => "directory",

@@ -1,0 +1,73 @@
+//! Guarded settings on arbitrary states.
+
+use super::{spoil, state, TOO_LARGE};
+use crate::comparison::Comparison;
+use crate::protocol::{Call, Request};
+use crate::random::Random;
+use reference::{Registers, FIELD_BITS};
+
+fn request(registers: Registers, buffer: Vec<u64>, number: u32, value: u32) -> Request {
+    Request {
+        call: Call::Setting { number, value },
+        registers: registers.to_words(),
+        buffer,
+        tables: Vec::new(),
+    }
+}
+
+pub fn edges(comparison: &mut Comparison, random: &mut Random) {
+    refusals(comparison, random);
+    values(comparison, random);
+}
+
+/// Every register edge with every number; the buffer's length must not matter.
+fn refusals(comparison: &mut Comparison, random: &mut Random) {
+    for registers in state::register_edges(random) {
+        for number in (0..10).chain(TOO_LARGE) {
+            for value in [0, random.bits(6), u32::MAX] {
+                let length = random.pick(&state::LENGTHS);
+                let buffer = state::buffer(random, length);
+                comparison.put(request(registers, buffer, number, value));
+            }
+        }
+    }
+}
+
+/// Every number with values around its width, and around 62 and 63.
+fn values(comparison: &mut Comparison, random: &mut Random) {
+    for (number, bits) in (0..10).zip(FIELD_BITS) {
+        let largest = state::largest(bits);
+        let past = largest.wrapping_add(1);
+        let edges = [0, 1, largest / 2, largest - 1, largest, past];
+        let near_63 = [61, 62, 63, 64, 65, 126, 127, u32::MAX - 1, u32::MAX];
+        let bit_by_bit = (0..32).map(|bit| 1 << bit);
+        for value in edges.into_iter().chain(near_63).chain(bit_by_bit) {
+            let registers = state::registers(random);
+            let length = random.pick(&[0, 64]);
+            let buffer = state::buffer(random, length);
+            comparison.put(request(registers, buffer, number, value));
+        }
+    }
+}
+
+/// A number and a value that are accepted.
+pub fn accepted(random: &mut Random) -> (u32, u32) {
+    let number = random.below(6) as u32;
+    let value = match number {
+        5 => random.below(63) as u32,
+        _ => random.bits(FIELD_BITS[number as usize]),
+    };
+    (number, value)
+}
+
+pub fn random(random: &mut Random, kept: usize) -> Request {
+    let (number, value) = accepted(random);
+    let registers = state::registers(random);
+    let length = random.pick(&[0, 0, 64, 65]);
+    let mut request = request(registers, state::buffer(random, length), number, value);
+    if random.one_in(3) {
+        let grounds = spoil::some(random, spoil::grounds_of(request.call));
+        spoil::spoil(random, &mut request, kept, &grounds);
+    }
+    request
+}

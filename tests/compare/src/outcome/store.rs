@@ -1,0 +1,263 @@
+//! Outcomes of a table store.
+
+use super::sweep::{self, Judged};
+use super::{refused, Runs};
+use crate::protocol::Answer;
+use reference::*;
+
+const CALL: &str = "table store";
+const IN_SEQUENCE: &str = "sequence, table store";
+const GROUNDS: [u32; 4] = [1, 2, 3, 6];
+
+const TEST_MODE: &str = "table store accepted in test mode";
+const UNDER_63: &str = "table store accepted under context 63";
+const SAME_EMPTIES: &str = "table store of the same value, empties slots";
+const ALL_64: &str = "table store empties 64 slots";
+const FIRST_PAST: &str = "table store refused 6, index one past the run";
+const LARGEST_INDEX: &str = "table store refused 6, index 4294967295";
+const NO_WORDS: &str = "table store refused 3, grounds 3 6, run of no words";
+const LAST_WORD: &str = "table store to the last word of the run";
+
+/// What a word is to the walks before the store.
+#[derive(Clone, Copy, PartialEq, Eq)]
+enum Target {
+    Root,
+    GlobalRoot,
+    Directory,
+    Leaf,
+    DirectoryAndLeaf,
+    Unused,
+}
+
+const TARGETS: [Target; 6] = [
+    Target::Root,
+    Target::GlobalRoot,
+    Target::Directory,
+    Target::Leaf,
+    Target::DirectoryAndLeaf,
+    Target::Unused,
+];
+
+pub fn all() -> Vec<String> {
+    let mut all = of_each(CALL);
+    all.extend(of_each(IN_SEQUENCE));
+    all.extend(refused::all_fields(CALL));
+    all.extend(refused::all_lengths(CALL));
+    all.extend(refused::all_runs(CALL));
+    all.extend(
+        sweep::all_outside()
+            .into_iter()
+            .map(|why| judged(CALL, why)),
+    );
+    let single = [
+        TEST_MODE,
+        UNDER_63,
+        SAME_EMPTIES,
+        ALL_64,
+        FIRST_PAST,
+        LARGEST_INDEX,
+        NO_WORDS,
+        LAST_WORD,
+    ];
+    all.extend(single.map(String::from));
+    all.push(to_and_empties(CALL, Target::Unused));
+    all
+}
+
+/// The outcomes that have to happen outside sequences and in them.
+fn of_each(call: &str) -> Vec<String> {
+    let mut all = refused::all_sets_of_grounds(call, &GROUNDS);
+    for target in TARGETS {
+        all.push(to(call, target));
+        if target != Target::Unused {
+            all.push(to_and_empties(call, target));
+        }
+    }
+    all.extend((0..3).map(|emptied| empties(call, emptied)));
+    all.extend([every_used(call), same_value(call), several_ids(call)]);
+    all.extend(
+        sweep::all_in_sequence()
+            .into_iter()
+            .map(|why| judged(call, why)),
+    );
+    all
+}
+
+pub fn of(
+    registers: Registers,
+    buffer: &[u64],
+    runs: Runs,
+    (index, value): (u32, u32),
+    expected: &Answer,
+) -> Vec<String> {
+    let length = runs.before.len();
+    let grounds = grounds(registers, buffer, length, index);
+    let mut outcomes = refused::of_fields(CALL, registers, &grounds);
+    outcomes.extend(refused::of_length(CALL, buffer, &grounds));
+    outcomes.extend(refused::of_run(CALL, length, &grounds));
+    let emptied = expected.words[1];
+    if grounds.is_empty() {
+        outcomes.extend(of_accepted(CALL, buffer, runs, index, expected));
+        let all = all_judged(registers, buffer, runs.after);
+        outcomes.extend(all.into_iter().map(|why| judged(CALL, why)));
+    } else {
+        outcomes.push(refused::set_of_grounds(CALL, &grounds, emptied));
+    }
+    let mut note = |grounds_are: &[u32], holds: bool, outcome: &str| {
+        if holds && grounds == grounds_are {
+            outcomes.push(outcome.to_string());
+        }
+    };
+    note(&[], registers.test == 1, TEST_MODE);
+    note(&[], registers.context == 63, UNDER_63);
+    note(&[], emptied == SLOTS as u32, ALL_64);
+    note(&[], index as usize + 1 == length, LAST_WORD);
+    note(&[3, 6], length == 0, NO_WORDS);
+    note(&[6], index as usize == length, FIRST_PAST);
+    note(&[6], index == u32::MAX, LARGEST_INDEX);
+    let same = runs.before.get(index as usize) == Some(&value);
+    note(&[], same && emptied > 0, SAME_EMPTIES);
+    outcomes
+}
+
+pub fn in_sequence(
+    registers: Registers,
+    buffer: &[u64],
+    runs: Runs,
+    (index, _): (u32, u32),
+    expected: &Answer,
+) -> Vec<String> {
+    let grounds = grounds(registers, buffer, runs.before.len(), index);
+    if !grounds.is_empty() {
+        let number = expected.words[1];
+        return vec![refused::set_of_grounds(IN_SEQUENCE, &grounds, number)];
+    }
+    let mut outcomes = of_accepted(IN_SEQUENCE, buffer, runs, index, expected);
+    let all = all_judged(registers, buffer, runs.after);
+    outcomes.extend(all.into_iter().map(|why| judged(IN_SEQUENCE, why)));
+    outcomes
+}
+
+fn grounds(registers: Registers, buffer: &[u64], length: usize, index: u32) -> Vec<u32> {
+    refused::grounds(&[
+        check_registers(registers),
+        check_buffer(buffer),
+        check_tables(length),
+        check_index(index, length),
+    ])
+}
+
+fn of_accepted(
+    call: &str,
+    buffer: &[u64],
+    runs: Runs,
+    index: u32,
+    expected: &Answer,
+) -> Vec<String> {
+    let emptied = expected.words[1];
+    let target = target(runs.before, index as usize);
+    let mut outcomes = vec![to(call, target), empties(call, emptied)];
+    if emptied > 0 {
+        outcomes.push(to_and_empties(call, target));
+    }
+    if runs.before[index as usize] == runs.after[index as usize] {
+        outcomes.push(same_value(call));
+    }
+    let gone: Vec<Entry> = (0..SLOTS)
+        .filter(|&slot| buffer[slot] != expected.buffer[slot])
+        .map(|slot| Entry::unpack(buffer[slot]))
+        .collect();
+    if gone.iter().any(|entry| entry.page_id != gone[0].page_id) {
+        outcomes.push(several_ids(call));
+    }
+    let is_empty =
+        |slot: usize| Entry::unpack(expected.buffer[slot]) == Entry::empty(slot / LOCATIONS);
+    if emptied >= 2 && (0..SLOTS).all(is_empty) {
+        outcomes.push(every_used(call));
+    }
+    outcomes
+}
+
+/// All that the sweep does with the 64 slots, each thing once.
+fn all_judged(registers: Registers, buffer: &[u64], words: &[u32]) -> Vec<Judged> {
+    let mut all = Vec::new();
+    for (slot, &number) in buffer.iter().enumerate() {
+        for why in sweep::judge(slot, number, words, registers.context) {
+            if !all.contains(&why) {
+                all.push(why);
+            }
+        }
+    }
+    all
+}
+
+fn target(words: &[u32], index: usize) -> Target {
+    let directories: Vec<usize> = words[..64]
+        .iter()
+        .filter_map(|&root| stretch(words, root, 512))
+        .collect();
+    let in_directory = directories.contains(&(index / 512));
+    let in_table = directories.iter().any(|&directory| {
+        words[512 * directory..512 * (directory + 1)]
+            .iter()
+            .any(|&word| stretch(words, word, 1024) == Some(index / 1024))
+    });
+    match (index, in_directory, in_table) {
+        (0..=62, _, _) => Target::Root,
+        (63, _, _) => Target::GlobalRoot,
+        (_, true, true) => Target::DirectoryAndLeaf,
+        (_, true, false) => Target::Directory,
+        (_, false, true) => Target::Leaf,
+        (_, false, false) => Target::Unused,
+    }
+}
+
+/// The number of the stretch that a good root or directory word names.
+fn stretch(words: &[u32], word: u32, length: usize) -> Option<usize> {
+    let number = (word ^ 0x8000_0000) as usize;
+    let good = (1..0x1_0000).contains(&number) && length * (number + 1) <= words.len();
+    good.then_some(number)
+}
+
+fn name(target: Target) -> &'static str {
+    match target {
+        Target::Root => "a root",
+        Target::GlobalRoot => "the global root",
+        Target::Directory => "a directory word",
+        Target::Leaf => "a leaf",
+        Target::DirectoryAndLeaf => "a directory word that is a leaf too",
+        Target::Unused => "a word that no walk asks",
+    }
+}
+
+fn to(call: &str, target: Target) -> String {
+    format!("{call} to {}", name(target))
+}
+
+fn to_and_empties(call: &str, target: Target) -> String {
+    format!("{call} to {}, empties slots", name(target))
+}
+
+fn empties(call: &str, emptied: u32) -> String {
+    match emptied {
+        0 => format!("{call} empties no slot"),
+        1 => format!("{call} empties 1 slot"),
+        _ => format!("{call} empties 2 slots or more"),
+    }
+}
+
+fn every_used(call: &str) -> String {
+    format!("{call} empties every slot in use, 2 or more")
+}
+
+fn same_value(call: &str) -> String {
+    format!("{call} of the same value")
+}
+
+fn several_ids(call: &str) -> String {
+    format!("{call} empties slots of several page_ids")
+}
+
+fn judged(call: &str, why: Judged) -> String {
+    format!("{call}, {}", why.name())
+}

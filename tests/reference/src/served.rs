@@ -1,0 +1,82 @@
+//! The served access: try, walk, load, try again.
+
+use crate::address::vpn;
+use crate::leaf::Leaf;
+use crate::load::load;
+use crate::raw::{raw_access, Access, RawAnswer, EXCEPTION_MISS};
+use crate::refusal::{
+    check_buffer, check_draw, check_registers, check_served, check_tables, Refusal,
+};
+use crate::registers::Registers;
+use crate::reply::{Outcome, Reply};
+use crate::walk::{walk, Walk};
+
+pub const FAULT_ABSENT: u32 = 16;
+pub const FAULT_BROKEN: u32 = 32;
+
+/// Refusals 1 to 5 in this order. "Registers end as these steps leave them."
+pub fn served_access(
+    registers: Registers,
+    buffer: &mut [u64],
+    words: &[u32],
+    access: Access,
+) -> Reply {
+    if let Err(refusal) = check(registers, buffer, words, access) {
+        return Reply::refused(refusal, registers);
+    }
+    let (first, registers) = one_try(registers, buffer, access);
+    if registers.enable == 0 || !is_miss(first) {
+        return reply(final_outcome(first), 0, registers);
+    }
+    match walk(words, registers.context, vpn(access.address)) {
+        Walk::Absent(_) => reply(Outcome::Fault(FAULT_ABSENT), 0, registers),
+        Walk::Broken(..) => reply(Outcome::Fault(FAULT_BROKEN), 0, registers),
+        Walk::Leaf(decided) => {
+            let leaf = Leaf::from_word(decided);
+            let vpn = vpn(access.address);
+            let registers = load(registers, buffer, vpn, leaf, access.draw);
+            let (second, registers) = one_try(registers, buffer, access);
+            reply(final_outcome(second), 1, registers)
+        }
+    }
+}
+
+fn check(
+    registers: Registers,
+    buffer: &[u64],
+    words: &[u32],
+    access: Access,
+) -> Result<(), Refusal> {
+    check_registers(registers)?;
+    check_buffer(buffer)?;
+    check_tables(words.len())?;
+    check_draw(access.draw)?;
+    check_served(registers)
+}
+
+/// A raw access "with the same draw", first or second.
+fn one_try(registers: Registers, buffer: &[u64], access: Access) -> (RawAnswer, Registers) {
+    let (answer, registers) = raw_access(registers, buffer, access);
+    let answer = answer.expect("a served access has passed the checks of a raw one");
+    (answer, registers)
+}
+
+fn is_miss(answer: RawAnswer) -> bool {
+    answer.exception && answer.value == EXCEPTION_MISS
+}
+
+/// Out of test mode an access has an address exactly when it has no exception.
+fn final_outcome(answer: RawAnswer) -> Outcome {
+    match answer.address {
+        Some(address) => Outcome::At(address),
+        None => Outcome::Fault(answer.value),
+    }
+}
+
+fn reply(outcome: Outcome, loads: u32, registers: Registers) -> Reply {
+    Reply {
+        outcome,
+        loads,
+        registers,
+    }
+}
