@@ -1,11 +1,11 @@
 -- Served accesses: what each leaves in the registers and in the slot that it loads.
-use Prim.Native.Nat.{ℕ, _+_, _*_, _^_}
+use Prim.Native.Nat.{ℕ}
 use mathlib.Core.Bool.{Bool, true, false}
 use mathlib.Core.List.{List, [], _∷_}
 use lib.ListN.{replicate}
 use Rattle.entry.specs.Entry.{pack}
 use Rattle.entry.specs.Empty.{emptyEntry}
-use Rattle.registers.specs.Fields.{KSEG, CTRL, ENABLE, CONTEXT, SELECT, TEST}
+use Rattle.registers.specs.Fields.{KSEG, ENABLE, CONTEXT, SELECT, TEST}
 use Rattle.registers.specs.Replies.{refused, answered}
 use Rattle.registers.specs.declared.Access.{Access}
 use Rattle.registers.specs.declared.Outcome.the-variants.{At, Fault}

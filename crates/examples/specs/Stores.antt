@@ -8,8 +8,6 @@ use Rattle.entry.specs.Empty.{emptyFields, emptyEntry}
 use Rattle.entry.specs.declared.Entry.{Entry}
 use Rattle.registers.specs.Fields.{put, KSEG, CTRL, ENABLE, KBASE_LO, KBASE_HI, CONTEXT, SELECT, TLB_HI, TLB_LO, TEST}
 use Rattle.registers.specs.Replies.{refused, done}
-use Rattle.registers.specs.declared.Registers.{Registers}
-use Rattle.slots.specs.Buffer.{Buffer}
 use Rattle.slots.specs.Buffer.Buffer.{Wide}
 use Rattle.store.specs.Rewrite.{Put}
 use Rattle.store.specs.Sweep.{kept}

@@ -7,21 +7,22 @@ use mathlib.Core.List.{[], _∷_}
 use native.Mathlib.Omega.{arith}
 use lib.Dec.{eqb}
 use lib.ListN.{length}
-use borrow.Author.Tests.{eqb-true, eq-eqb, ne-eqb}
+use borrow.Author.Tests.{eq-eqb, ne-eqb}
 use types.Run.{OneOf}
 use denote.Enum.Declared.{tagOf}
 use Rattle.entry.specs.Address.{vpnOf}
 use Rattle.entry.specs.Entry.{pack}
 use Rattle.entry.proofs.Fields.{vpn-lt}
 use Rattle.registers.specs.Fields.{put, registersFit}
-use Rattle.registers.specs.Refusals.{byRefusal, drawFits}
+use Rattle.registers.specs.Refusals.{drawFits}
 use Rattle.registers.specs.Replies.{refusalOf, refused, answered}
-use Rattle.registers.proofs.RefusalLaws.{passed, when-accepted, when-refused}
+use Rattle.registers.proofs.RefusalLaws.{passed, when-accepted, when-refused, answer-refusal}
 use Rattle.registers.specs.declared.Access.{Access}
 use Rattle.registers.specs.declared.Outcome.the-variants.{At, Fault}
 use Rattle.registers.specs.declared.Registers.{Registers}
 use Rattle.registers.specs.declared.Reply.{Reply}
 use Rattle.page_table.specs.Stretches.{tablesFit}
+use Rattle.page_table.proofs.Stretches.{fit-roots}
 use Rattle.page_table.specs.Walk.{walkPage}
 use Rattle.page_table.specs.Faults.{walkFault}
 use Rattle.page_table.specs.declared.Found.{Found}
@@ -39,7 +40,6 @@ use Rattle.access.proofs.AccessLaws.{draw-lt}
 use Rattle.access.proofs.Keeping.{select-fits, translate-fits}
 use Rattle.store.specs.Leaf.{leafEntry}
 use Rattle.store.specs.Machine.{Machine}
-use Rattle.store.proofs.StoreLaws.{roots-inside}
 use Rattle.mmu.specs.ServedAccess.{mayBeServed, servedRefusal, outcomeOf, triedReply, missed, loadedAt, registersLoaded, bufferLoaded}
 use Rattle.mmu.specs.ServedAccess.{afterMiss, bufferAfterMiss, firstTry, walkFor, accessReply, accessBuffer, servedReply}
 use Rattle.mmu.specs.ServedAccess.{servedBuffer}
@@ -58,7 +58,7 @@ served-accepted m a h =
     let two = passed (bufferFits (m .buffer)) 2 _ (λ e. omega arith) (one .1) in
     let three = passed (tablesFit (m .words)) 3 _ (λ e. omega arith) (two .1) in
     let four = passed (drawFits (a .draw)) 4 _ (λ e. omega arith) (three .1) in
-    (record { registers-fit = one .0; buffer-fits = two .0; draw-fits = four .0 }, roots-inside (m .words) (three .0))
+    (record { registers-fit = one .0; buffer-fits = two .0; draw-fits = four .0 }, fit-roots (m .words) (three .0))
 
 pub page-lt : (address vpn : ℕ) → vpn ≡ vpnOf address → vpn < 524288
 page-lt address vpn q = subst (λ (n : ℕ). n < 524288) (sym q) (vpn-lt address)
@@ -160,32 +160,26 @@ access-answers m a = by-try (missed (firstTry m a))
     by-try true = miss-answers (walkFor m a) ((firstTry m a) .registers) (m .buffer) a
     by-try false = tried-answers (firstTry m a) 0
 
-answer-refusal : (number : ℕ) (answer : Reply) (r : Registers) → refusalOf (answer .outcome) ≡ 0
-    → refusalOf ((byRefusal number answer (refused r number)) .outcome) ≡ number
-unfolding byRefusal refusalOf
-answer-refusal number answer r h = by-test (eqb number 0) refl
-  where
-    by-test : (b : Bool) → eqb number 0 ≡ b → refusalOf ((cond b answer (refused r number)) .outcome) ≡ number
-    by-test true e = h ∙ sym (eqb-true number 0 e)
-    by-test false e = refl
+-- what every reply promises
+pub served-gives : (m : Machine) (a : Access) (reply : Reply) (after : Buffer) → reply ≡ servedReply m a → after ≡ servedBuffer m a
+    → ServedAccessGives m a reply after
+unfolding servedReply
+served-gives m a reply after q b = record {
+  refusal-is =
+      ap (λ (s : Reply). refusalOf (s .outcome)) q
+      ∙ answer-refusal (servedRefusal m a) (accessReply m a) (m .registers) (access-answers m a);
+  reply-is = q;
+  buffer-is = b;
+}
 
 -- the two ways through the call
 module _ (m : Machine) (a : Access) (n : ℕ) (nq : n ≡ servedRefusal m a) (reply : Reply) where
-  gives : (after : Buffer) → reply ≡ servedReply m a → after ≡ servedBuffer m a → ServedAccessGives m a reply after
-  unfolding servedReply
-  gives after q b = record {
-    refusal-is =
-        ap (λ (s : Reply). refusalOf (s .outcome)) q
-        ∙ answer-refusal (servedRefusal m a) (accessReply m a) (m .registers) (access-answers m a);
-    reply-is = q;
-    buffer-is = b;
-  }
-
   pub served-refused : (n ≡ 0 → ⊥) → reply ≡ refused (m .registers) n → ServedAccessGives m a reply (m .buffer)
   unfolding servedReply servedBuffer
   served-refused h q =
-      gives (m .buffer) (when-refused _ n nq _ _ _ h (q ∙ ap (refused (m .registers)) nq)) (when-refused _ n nq _ _ _ h refl)
+      served-gives m a reply (m .buffer) (when-refused _ n nq _ _ _ h (q ∙ ap (refused (m .registers)) nq)) (when-refused _ n nq _ _ _ h refl)
 
   pub served-done : (after : Buffer) → n ≡ 0 → AccessGives m a reply after → ServedAccessGives m a reply after
   unfolding servedReply servedBuffer
-  served-done after z g = gives after (when-accepted _ n nq _ _ _ z (g .reply-is)) (when-accepted _ n nq _ _ _ z (g .buffer-is))
+  served-done after z g =
+      served-gives m a reply after (when-accepted _ n nq _ _ _ z (g .reply-is)) (when-accepted _ n nq _ _ _ z (g .buffer-is))

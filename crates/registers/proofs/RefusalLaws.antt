@@ -7,6 +7,7 @@ use borrow.Author.Tests.{not-true, not-false, eq-eqb, ne-eqb, eqb-true}
 use Rattle.registers.specs.Refusals.{refuseUnless, byRefusal}
 use Rattle.registers.specs.Replies.{refusalOf, refused, done}
 use Rattle.registers.specs.declared.Registers.{Registers}
+use Rattle.registers.specs.declared.Reply.{Reply}
 
 -- a check that the code makes by a test t: it fails, or the later checks decide
 module _ (test t : Bool) (number later : ℕ) (tq : t ≡ test) where
@@ -34,12 +35,17 @@ module _ {A : Type 0} (number n : ℕ) (nq : n ≡ number) (accepted refused x :
   unfolding byRefusal
   when-refused z q = q ∙ sym (rw (ne-eqb number 0 (λ y. z (nq ∙ y))))
 
--- a call that succeeds or is refused replies with the number of its refusal, and with 0 exactly where it is accepted
+-- a call that answers, or is refused, replies with the number of its refusal: 0 exactly where it is accepted
+pub answer-refusal : (number : ℕ) (answer : Reply) (r : Registers) → refusalOf (answer .outcome) ≡ 0
+    → refusalOf ((byRefusal number answer (refused r number)) .outcome) ≡ number
+unfolding byRefusal refusalOf
+answer-refusal number answer r h = by-test (eqb number 0) refl
+  where
+    by-test : (b : Bool) → eqb number 0 ≡ b → refusalOf ((cond b answer (refused r number)) .outcome) ≡ number
+    by-test true e = h ∙ sym (eqb-true number 0 e)
+    by-test false e = refl
+
 pub reply-refusal : (number value : ℕ) (after r : Registers)
     → refusalOf ((byRefusal number (done after value) (refused r number)) .outcome) ≡ number
-unfolding byRefusal refusalOf
-reply-refusal number value after r = by-test (eqb number 0) refl
-  where
-    by-test : (b : Bool) → eqb number 0 ≡ b → refusalOf ((cond b (done after value) (refused r number)) .outcome) ≡ number
-    by-test true e = sym (eqb-true number 0 e)
-    by-test false e = refl
+unfolding refusalOf
+reply-refusal number value after r = answer-refusal number (done after value) r refl

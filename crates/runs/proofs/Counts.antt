@@ -119,6 +119,7 @@ module _ (p : ℕ → Bool) where
   unfolding count
   count-le zero = omega arith
   count-le (suc n) = omega (arith, count-le n, bit-le (p n))
+
 -- tests that agree below the bound
 module _ (p q : ℕ → Bool) where
   pub count-same : (n : ℕ) → ((k : ℕ) → k < n → p k ≡ q k) → count p n ≡ count q n

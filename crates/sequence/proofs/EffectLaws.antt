@@ -4,11 +4,10 @@ use mathlib.Core.Path.{_≡_, refl, sym, ap, _∙_, subst, subst₂}
 use mathlib.Core.Bool.{Bool, true, false, cond, not, _||_}
 use mathlib.Core.List.{List, [], _∷_}
 use lib.Dec.{eqb, leb}
-use lib.ListN.{length, set, length-set}
+use lib.ListN.{set, length-set}
 use borrow.Author.Tests.{leb-true}
 use Rattle.registers.specs.Fields.{registersFit}
 use Rattle.registers.specs.declared.Access.{Access}
-use Rattle.registers.specs.declared.Registers.{Registers}
 use Rattle.page_table.specs.Stretches.{tablesFit}
 use Rattle.page_table.specs.declared.Walk.{Walk}
 use Rattle.page_table.specs.declared.Walk.the-variants.{Leaf, Absent, Broken}
@@ -21,7 +20,7 @@ use Rattle.store.specs.Sweep.{swept}
 use Rattle.store.proofs.Sweeps.{swept-fits}
 use Rattle.control.specs.Setting.{switchFits}
 use Rattle.mmu.specs.ServedAccess.{missed, firstTry, walkFor, bufferLoaded, bufferAfterMiss, accessBuffer}
-use Rattle.sequence.specs.Reader.{Settings, Reader, settingsOf, withGuarded, readerWalk}
+use Rattle.sequence.specs.Reader.{Settings, settingsOf, withGuarded, readerWalk}
 use Rattle.sequence.specs.Account.{Slots, slotsSwept}
 use Rattle.sequence.specs.Effects.{Effect, rewritten, sweptAll, readerDoes, slotsDo}
 use Rattle.sequence.specs.Effects.Effect.{Keep, Serve, Rewrite, Set}

@@ -1,37 +1,32 @@
 -- The account of the slots follows the buffer: at a first try, a load, a sweep, and at the start. Assumes nothing.
-use Prim.Native.Nat.{ℕ, _+_, _≤_, _<_}
+use Prim.Native.Nat.{ℕ, _≤_, _<_}
 use mathlib.Core.Path.{_≡_, refl, sym, ap, _∙_}
 use mathlib.Core.Bool.{Bool, true, false, cond, not, _&&_}
-use mathlib.Core.List.{List, [], _∷_}
+use mathlib.Core.List.{List}
 use lib.Dec.{eqb}
 use Rattle.runs.proofs.Counts.{count-same, lowest-same}
 use Rattle.entry.specs.Address.{vpnOf, slotOf}
-use Rattle.entry.specs.Entry.{unpack, pack}
+use Rattle.entry.specs.Entry.{unpack}
 use Rattle.entry.proofs.Fields.{vpn-lt, slot-lt}
 use Rattle.entry.specs.declared.Entry.{Entry}
 use Rattle.registers.specs.declared.Access.{Access}
-use Rattle.page_table.specs.Walk.{walkPage}
-use Rattle.page_table.specs.declared.Found.{Found}
 use Rattle.page_table.specs.declared.Walk.{Walk}
 use Rattle.page_table.specs.declared.Walk.the-variants.{Leaf, Absent, Broken}
 use Rattle.slots.specs.Buffer.{Buffer, bufferFits, slotAt}
 use Rattle.slots.specs.Start.{startBuffer}
 use Rattle.tlb.specs.Hit.{matchesPage, hit}
 use Rattle.tlb.specs.Search.{fieldsAt, setHits, hitCount}
-use Rattle.tlb.specs.Load.{setMatches, loadSlot, loadedBuffer}
+use Rattle.tlb.specs.Load.{setMatches, loadSlot}
 use Rattle.access.specs.Segments.{inLinearSegment}
 use Rattle.access.specs.Exceptions.{invExc}
 use Rattle.access.specs.Translation.{isSet}
 use Rattle.store.specs.Leaf.{leafEntry}
 use Rattle.store.specs.Machine.{Machine}
-use Rattle.store.specs.Rewrite.{Put, written}
 use Rattle.store.specs.Sweep.{kept, keptAt, swept, emptied}
-use Rattle.store.proofs.Sweeps.{swept-fits}
 use Rattle.mmu.specs.ServedAccess.{missed, firstTry, walkFor, bufferAfterMiss, accessBuffer}
-use Rattle.sequence.specs.Reader.{Settings, settingsOf}
+use Rattle.sequence.specs.Reader.{settingsOf}
 use Rattle.sequence.specs.Account.{Slots, startSlots, withEntry, tryMisses, slotToLoad, slotsLoaded, sweptEntry, slotsSwept}
 use Rattle.sequence.specs.Account.{slotsEmptied}
-use Rattle.sequence.specs.Effects.{sweptAll, emptiedAll}
 use Rattle.sequence.proofs.Invariant.{Inv, load-fields, swept-fields, start-fields}
 use Rattle.sequence.proofs.Tries.{try-missed}
 use Rattle.sequence.proofs.Serving.{loaded-is}

@@ -13,12 +13,12 @@ use borrow.Author.Tests.{eqb-true, eq-eqb, le-leb}
 use Rattle.runs.specs.Counts.{lowest}
 use Rattle.runs.proofs.Bools.{clash, both, and-both, or-either, or-left, or-right}
 use Rattle.runs.proofs.Counts.{lowest-true, lowest-lt}
-use Rattle.entry.specs.Address.{location, vpn15Of, slotOf, setOf, vpnAt}
-use Rattle.entry.specs.Entry.{unpack, pack, EntryFits, sameLow}
+use Rattle.entry.specs.Address.{location, vpn15Of, slotOf, setOf}
+use Rattle.entry.specs.Entry.{unpack, pack, EntryFits}
 use Rattle.entry.specs.Empty.{emptyFields, emptyEntry}
 use Rattle.entry.proofs.Fields.{pack-lt, empty-fits, slot-lt}
 use Rattle.entry.proofs.RoundTrips.{unpack-pack}
-use Rattle.entry.proofs.Same.{LowSame, low-same, low-self, same-self, entry-same, vpn-back}
+use Rattle.entry.proofs.Same.{low-same, low-self, same-self, entry-same, vpn-back}
 use Rattle.entry.specs.declared.Entry.{Entry}
 use Rattle.page_table.specs.Words.{leafValid, leafKernel, leafWe, leafPfn}
 use Rattle.page_table.specs.Walk.{walkPage}
@@ -35,6 +35,7 @@ use Rattle.tlb.specs.Load.{setMatches, loadSlot, loadedBuffer}
 use Rattle.tlb.proofs.Loads.{load-there, load-elsewhere}
 use Rattle.store.specs.Leaf.{leafEntry}
 use Rattle.store.specs.Sweep.{isEmpty, agreesWithLeaf, agreesWithTables, kept, keptAt, swept}
+use Rattle.store.proofs.KeptLaws.{leaf-fits}
 use Rattle.store.proofs.Sweeps.{swept-at}
 use Rattle.sequence.specs.Account.{sweptEntry}
 
@@ -61,10 +62,6 @@ leaf-for (Leaf found) vpn f h =
     record { found = found; is = refl; global = s .global; valid = s .valid; kernel = s .kernel; we = s .we; pfn = s .pfn }
 leaf-for (Absent s) vpn f h = absurd (clash h refl)
 leaf-for (Broken s) vpn f h = absurd (clash h refl)
-
-pub leaf-fits : (id vpn : ℕ) (found : Found) → id < 64 → vpn < 2 ^ 19 → EntryFits (leafEntry id vpn found)
-unfolding leafEntry vpn15Of leafPfn
-leaf-fits id vpn found li lv = record { vpn15-fits = omega arith; page-id-fits = omega arith; pfn-fits = omega arith }
 
 -- an entry's number, stored and taken apart again
 pub stored-fields : (f : Entry) → EntryFits f → unpack (pack f % 2 ^ 44) ≡ f

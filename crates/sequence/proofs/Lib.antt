@@ -6,3 +6,4 @@ pub mod EffectLaws
 pub mod Taking
 pub mod Refusing
 pub mod Theorem
+pub mod Asking

@@ -1,18 +1,15 @@
 -- A refused call has no effect, and a call handed a machine in service is refused only for its own arguments. Assumes nothing.
 use Prim.Native.Nat.{ℕ, _≤_}
-use mathlib.Core.Path.{_≡_, refl, sym, ap, _∙_}
-use mathlib.Core.Bool.{Bool, true, false, cond, not, _&&_}
+use mathlib.Core.Path.{_≡_, ap, _∙_}
+use mathlib.Core.Bool.{true, false}
 use mathlib.Core.List.{List}
 use native.Mathlib.Omega.{arith}
-use lib.Dec.{eqb}
 use borrow.Author.Tests.{ne-eqb}
-use Rattle.registers.specs.Fields.{registersFit}
 use Rattle.registers.specs.Refusals.{refuseUnless, byRefusal}
 use Rattle.registers.specs.Replies.{refused}
 use Rattle.registers.specs.declared.Registers.{Registers}
 use Rattle.registers.specs.declared.Reply.{Reply}
 use Rattle.slots.specs.Buffer.{Buffer}
-use Rattle.access.specs.Translation.{isSet}
 use Rattle.store.specs.Machine.{Machine}
 use Rattle.store.specs.TableStore.{storeRefusal, storeReply, bufferAfterStore, wordsAfterStore}
 use Rattle.control.specs.Setting.{settingRefusal, settingReply}

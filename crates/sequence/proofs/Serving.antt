@@ -1,10 +1,9 @@
 -- An accepted access, over a buffer with the invariant: it answers what the reader gets, counts a load exactly when its first try missed
 -- and the walk found a leaf, leaves the guarded settings, and keeps the invariant. Assumes nothing.
-use Prim.Native.Nat.{ℕ, _^_, _≤_, _<_}
+use Prim.Native.Nat.{ℕ, _≤_, _<_}
 use mathlib.Core.Path.{_≡_, refl, sym, ap, _∙_, subst}
 use mathlib.Core.Logic.{⊎-elim}
 use mathlib.Core.Bool.{Bool, true, false, cond, not, _&&_}
-use mathlib.Core.List.{List}
 use lib.Dec.{eqb}
 use Rattle.runs.specs.Bits.{bit}
 use Rattle.runs.specs.Counts.{lowest}
@@ -35,7 +34,7 @@ use Rattle.mmu.specs.ServedAccess.{outcomeOf, triedReply, missed, registersLoad
 use Rattle.mmu.specs.ServedAccess.{walkFor, accessReply, accessBuffer}
 use Rattle.sequence.specs.Reader.{Settings, Reader, settingsOf, readerWalk, foundLeaf, walkAnswer, readerAnswer}
 use Rattle.sequence.proofs.Invariant.{Inv, LeafFor, load-set-lt, load-keeps, load-matches}
-use Rattle.sequence.proofs.Tries.{told, Kept, kept-self, kept-then, try-linear, try-off, try-missed, try-keeps, hit-missed, miss-is}
+use Rattle.sequence.proofs.Tries.{told, Kept, kept-then, try-linear, try-off, try-missed, try-keeps, hit-missed, miss-is}
 use Rattle.sequence.proofs.Tries.{page-leaf, seen-is, try-told}
 
 -- the reader that has a machine's words and guarded settings

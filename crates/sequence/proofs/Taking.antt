@@ -1,49 +1,45 @@
 -- One lemma a call: an accepted call's promise leads where its effect leads, and gives what is owed. Assumes nothing.
-use Prim.Native.Nat.{ℕ, zero, suc, _+_, _≤_, _<_}
+use Prim.Native.Nat.{ℕ, zero, suc}
 use mathlib.Core.Path.{_≡_, refl, sym, ap, _∙_, subst}
 use mathlib.Core.Bool.{Bool, true, false, cond, _&&_}
 use mathlib.Core.List.{List, [], _∷_}
 use native.Mathlib.Omega.{arith}
 use native.Mathlib.Nat.{add-zero}
-use lib.Dec.{eqb, leb}
 use borrow.Author.Tests.{eqb-true, leb-true}
 use Rattle.runs.specs.Bits.{bit}
 use Rattle.registers.specs.Fields.{toWords, fromWords, put, fitsAt, registersFit}
-use Rattle.registers.specs.Refusals.{byRefusal, drawFits}
-use Rattle.registers.specs.Replies.{refused}
+use Rattle.registers.specs.Refusals.{byRefusal}
 use Rattle.registers.proofs.Fields.{put-fits}
 use Rattle.registers.proofs.RefusalLaws.{passed}
 use Rattle.registers.specs.declared.Access.{Access}
-use Rattle.registers.specs.declared.Outcome.{Outcome}
 use Rattle.registers.specs.declared.Outcome.the-variants.{Done}
 use Rattle.registers.specs.declared.Registers.{Registers}
 use Rattle.registers.specs.declared.Reply.{Reply}
-use Rattle.page_table.specs.Stretches.{tablesFit}
 use Rattle.page_table.specs.declared.Walk.{Walk}
 use Rattle.page_table.specs.declared.Walk.the-variants.{Leaf, Absent, Broken}
-use Rattle.slots.specs.Buffer.{Buffer, bufferFits}
-use Rattle.tlb.proofs.Loads.{load-slot-lt, load-fits}
+use Rattle.slots.specs.Buffer.{Buffer}
 use Rattle.access.specs.Translation.{Accepted, translate}
 use Rattle.access.proofs.AccessLaws.{draw-lt}
-use Rattle.access.proofs.Keeping.{translate-fits, select-fits}
+use Rattle.access.proofs.Keeping.{translate-fits}
 use Rattle.store.specs.Machine.{Machine}
 use Rattle.store.specs.Rewrite.{Put, written}
 use Rattle.store.specs.TableStore.{storedWords, storeReply, bufferAfterStore, wordsAfterStore, TableStoreGives}
 use Rattle.control.specs.Setting.{isGuarded, switchFits, settingRefusal, settingReply, GuardedSettingGives}
-use Rattle.mmu.specs.ServedAccess.{mayBeServed, servedRefusal, triedReply, missed, loadedAt, registersLoaded, bufferLoaded, afterMiss}
+use Rattle.mmu.specs.ServedAccess.{servedRefusal, triedReply, missed, loadedAt, registersLoaded, bufferLoaded, afterMiss}
 use Rattle.mmu.specs.ServedAccess.{bufferAfterMiss, firstTry, walkFor, accessReply, accessBuffer, servedReply, servedBuffer}
 use Rattle.mmu.specs.ServedAccess.{ServedAccessGives}
-use Rattle.sequence.specs.Reader.{Settings, settingsOf, withGuarded, readerWalk, foundLeaf}
-use Rattle.sequence.specs.Account.{Slots, tryMisses}
-use Rattle.sequence.specs.Effects.{Effect, rewritten, emptiedAll, AnswerOwed, CountOwed, loadsOwed}
-use Rattle.sequence.specs.Effects.Effect.{Keep, Serve, Rewrite, Set}
+use Rattle.mmu.proofs.ServedLaws.{served-accepted, loaded-accepted, first-accepted}
+use Rattle.sequence.specs.Reader.{settingsOf, withGuarded, readerWalk, foundLeaf}
+use Rattle.sequence.specs.Account.{Slots}
+use Rattle.sequence.specs.Effects.{rewritten, emptiedAll, AnswerOwed, CountOwed, loadsOwed}
+use Rattle.sequence.specs.Effects.Effect.{Serve}
 use Rattle.sequence.specs.Calls.{Call, refusal, accepted, effectOf, handed, Promise}
 use Rattle.sequence.specs.Calls.Call.{ServedAccess, TableStore, GuardedSetting}
 use Rattle.sequence.specs.Demand3.{System, FirstTryAgrees, NoneStored}
 use Rattle.sequence.proofs.Tries.{Kept}
 use Rattle.sequence.proofs.Serving.{readerOf, access-loads, access-keeps, access-answer}
 use Rattle.sequence.proofs.Following.{SameSlots, misses-same, emptied-same}
-use Rattle.sequence.proofs.EffectLaws.{Sound, off, bufferAfter, Led, Leads, Fit}
+use Rattle.sequence.proofs.EffectLaws.{Sound, off, bufferAfter, Leads, Fit}
 
 unfoldable pub systemOf : Machine → Slots → System
 systemOf m slots = record { machine = m; reader = readerOf m; slots = slots }
@@ -59,58 +55,44 @@ pub record Taken (m : Machine) (slots : Slots) (c : Call) (reply : Reply) (buffe
 
 -- ---- a served access
 
-module _ (m : Machine) (a : Access) (ok : Accepted (m .registers) (m .buffer) a) where
-  after : Registers
-  after = (translate (m .registers) (m .buffer) a) .registers
+-- the second try is accepted, so that it leaves registers that fit
+pub reply-fits : (m : Machine) (a : Access) → Accepted (m .registers) (m .buffer) a → registersFit ((accessReply m a) .registers) ≡ true
+unfolding accessReply afterMiss triedReply firstTry registersLoaded loadedAt bufferLoaded
+reply-fits m a ok = go (missed (firstTry m a)) (walkFor m a)
+  where
+    after : Registers
+    after = (translate (m .registers) (m .buffer) a) .registers
 
-  -- the registers fit after the load too, and the second try leaves registers that fit
-  pub reply-fits : registersFit ((accessReply m a) .registers) ≡ true
-  unfolding accessReply afterMiss triedReply firstTry registersLoaded bufferLoaded loadedAt
-  reply-fits = go (missed (firstTry m a)) (walkFor m a)
-    where
-      first : registersFit ((firstTry m a) .registers) ≡ true
-      first = translate-fits (m .registers) (m .buffer) a ok
+    first : Accepted after (m .buffer) a
+    first = first-accepted (m .registers) (m .buffer) a _ refl ok
 
-      go : (t : Bool) (x : Walk)
-          → registersFit ((cond t (afterMiss x ((firstTry m a) .registers) (m .buffer) a) (triedReply (firstTry m a) 0)) .registers) ≡ true
-      go true (Leaf f) =
-          translate-fits _ _ a
-          (record {
-            registers-fit =
-                select-fits ((firstTry m a) .registers) _ first (load-slot-lt (m .buffer) _ _ (a .draw) (draw-lt (a .draw) (ok .draw-fits)));
-            buffer-fits = load-fits (m .buffer) _ _ _ _ ∙ ok .buffer-fits;
-            draw-fits = ok .draw-fits;
-          })
-      go true (Absent s) = first
-      go true (Broken s) = first
-      go false x = first
+    go : (t : Bool) (x : Walk)
+        → registersFit ((cond t (afterMiss x ((firstTry m a) .registers) (m .buffer) a) (triedReply (firstTry m a) 0)) .registers) ≡ true
+    go true (Leaf f) =
+        translate-fits _ _ a
+        (loaded-accepted after (m .buffer) _ a _ _ _ _ (record { slot-is = refl; buffer-is = refl }) refl first)
+    go true (Absent s) = first .registers-fit
+    go true (Broken s) = first .registers-fit
+    go false x = first .registers-fit
 
-  -- nothing is stored unless the first try missed and the walk found a leaf
-  none-stored : bit (missed (firstTry m a) && foundLeaf (walkFor m a)) ≡ 0 → accessBuffer m a ≡ m .buffer
-  unfolding accessBuffer bufferAfterMiss foundLeaf
-  none-stored = go (missed (firstTry m a)) (walkFor m a)
-    where
-      go : (t : Bool) (x : Walk) → bit (t && foundLeaf x) ≡ 0
-          → cond t (bufferAfterMiss x ((firstTry m a) .registers) (m .buffer) a) (m .buffer) ≡ m .buffer
-      go true (Leaf f) h = absurd (omega arith)
-      go true (Absent s) h = refl
-      go true (Broken s) h = refl
-      go false x h = refl
-
-served-draw : (m : Machine) (a : Access) → servedRefusal m a ≡ 0 → drawFits (a .draw) ≡ true
-unfolding servedRefusal
-served-draw m a h =
-    let one = passed (registersFit (m .registers)) 1 _ (λ e. omega arith) h in
-    let two = passed (bufferFits (m .buffer)) 2 _ (λ e. omega arith) (one .1) in
-    let three = passed (tablesFit (m .words)) 3 _ (λ e. omega arith) (two .1) in
-    (passed (drawFits (a .draw)) 4 _ (λ e. omega arith) (three .1)) .0
+-- nothing is stored unless the first try missed and the walk found a leaf
+none-stored : (m : Machine) (a : Access) → bit (missed (firstTry m a) && foundLeaf (walkFor m a)) ≡ 0 → accessBuffer m a ≡ m .buffer
+unfolding accessBuffer bufferAfterMiss foundLeaf
+none-stored m a = go (missed (firstTry m a)) (walkFor m a)
+  where
+    go : (t : Bool) (x : Walk) → bit (t && foundLeaf x) ≡ 0
+        → cond t (bufferAfterMiss x ((firstTry m a) .registers) (m .buffer) a) (m .buffer) ≡ m .buffer
+    go true (Leaf f) h = absurd (omega arith)
+    go true (Absent s) h = refl
+    go true (Broken s) h = refl
+    go false x h = refl
 
 module _ (m : Machine) (slots : Slots) (s : Sound m) (same : SameSlots (m .buffer) slots) where
   module _ (a : Access) (reply : Reply) (buffer : Buffer) (words : List ℕ) (ok : accepted (ServedAccess m a) ≡ true)
       (p : ServedAccessGives m a reply buffer) (q : words ≡ m .words) where
-    draw-ok : drawFits (a .draw) ≡ true
+    given-ok : Accepted (m .registers) (m .buffer) a
     unfolding accepted refusal
-    draw-ok = served-draw m a (eqb-true (servedRefusal m a) 0 ok)
+    given-ok = (served-accepted m a (eqb-true (servedRefusal m a) 0 ok)) .0
 
     reply-is : reply ≡ accessReply m a
     unfolding servedReply byRefusal accepted refusal
@@ -130,24 +112,22 @@ module _ (m : Machine) (slots : Slots) (s : Sound m) (same : SameSlots (m .buffe
     access-taken : Taken m slots (ServedAccess m a) reply buffer words
     unfolding effectOf Fit Leads AnswerOwed CountOwed FirstTryAgrees NoneStored systemOf readerOf
     access-taken = record {
-      fit = draw-lt (a .draw) draw-ok;
+      fit = draw-lt (a .draw) (given-ok .draw-fits);
       leads = record {
         settings-are = kept .settings;
         buffer-is = buffer-is;
         words-are = q;
         registers-fit =
-            ap (λ (x : Reply). registersFit (x .registers)) reply-is
-            ∙ reply-fits m a (record { registers-fit = s .registers-fit; buffer-fits = s .buffer-fits; draw-fits = draw-ok });
+            ap (λ (x : Reply). registersFit (x .registers)) reply-is ∙ reply-fits m a given-ok;
         test-off = kept .test ∙ s .test-off;
       };
       answer =
           ap (λ (x : Reply). x .outcome) reply-is
-          ∙ access-answer m a (off _ (s .test-off)) (s .context-served) (draw-lt (a .draw) draw-ok) (s .buffer-fits) (s .inv);
+          ∙ access-answer m a (off _ (s .test-off)) (s .context-served) (draw-lt (a .draw) (given-ok .draw-fits)) (s .buffer-fits) (s .inv);
       count = tt;
       first-try = misses-same m a slots same (off _ (s .test-off));
       loads = ap (λ (x : Reply). x .loads) reply-is ∙ access-loads m a ∙ counted;
-      else-none = λ z. buffer-is
-          ∙ none-stored m a (record { registers-fit = s .registers-fit; buffer-fits = s .buffer-fits; draw-fits = draw-ok }) (counted ∙ z);
+      else-none = λ z. buffer-is ∙ none-stored m a (counted ∙ z);
     }
 
   -- ---- a table store

@@ -1,11 +1,10 @@
 -- Demand 3: the step and the induction, which name no call. Assumes nothing.
-use Prim.Native.Nat.{ℕ, _%_, _^_, _≤_, _<_}
+use Prim.Native.Nat.{ℕ, _≤_}
 use mathlib.Core.Path.{_≡_, refl, sym, ap, _∙_, subst}
-use mathlib.Core.Bool.{Bool, true, false, cond}
+use mathlib.Core.Bool.{Bool, true, false}
 use mathlib.Core.List.{List, [], _∷_}
 use native.Mathlib.Omega.{arith}
 use native.Mathlib.Nat.{mod-eq-of-lt}
-use lib.Dec.{eqb}
 use Rattle.runs.specs.Counts.{all}
 use Rattle.runs.proofs.Bools.{clash, both}
 use Rattle.runs.proofs.Counts.{count-le-one}
@@ -30,9 +29,7 @@ use Rattle.store.specs.Machine.{Machine}
 use Rattle.control.specs.Starting.{startRefusal, startReply, startedBuffer, StartGives}
 use Rattle.sequence.specs.Reader.{Reader, startReader, settingsOf}
 use Rattle.sequence.specs.Account.{Slots, startSlots}
-use Rattle.sequence.specs.Effects.{readerDoes, slotsDo}
-use Rattle.sequence.specs.Calls.{Call, Event, refusal, accepted, effectOf, handed, leftBy, Promise, Promised}
-use Rattle.sequence.specs.Requests.{Request, callOn, ownRefusal}
+use Rattle.sequence.specs.Calls.{Event, refusal, accepted, effectOf, leftBy, Promised}
 use Rattle.sequence.specs.Demand3.{System, begun, systemAfter, Moment, IfAccepted, IfRefused, Answered, Counted, Loaded}
 use Rattle.sequence.specs.Demand3.{RefusalHasNoEffect, SlotIs, InService, Holds, HoldsThroughout, Handed, HandedThroughout, Demand3}
 use Rattle.sequence.specs.Demand3.Moment.{Start, After}

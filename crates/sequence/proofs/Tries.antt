@@ -26,7 +26,7 @@ use Rattle.tlb.specs.Hit.{validOrInvExc, matchesPage, hit}
 use Rattle.tlb.specs.Search.{fieldsAt, setHits, hitCount, hitSet}
 use Rattle.tlb.specs.Load.{setMatches}
 use Rattle.access.specs.Segments.{inLinearSegment, linearAddress}
-use Rattle.access.specs.Exceptions.{invExc, accExc, weExc, writeError, accessViolation, invalidPage, exceptionValue, MISS}
+use Rattle.access.specs.Exceptions.{invExc, writeError, accessViolation, invalidPage, exceptionValue, MISS}
 use Rattle.access.specs.Translation.{pageAddress, isSet, noException, withCause, exceptionAddress, exceptionAnswer, hitValue, onHit}
 use Rattle.access.specs.Translation.{byHitCount, foundSet, pageMapped, translate}
 use Rattle.access.specs.declared.Physical.{Physical}
@@ -34,7 +34,7 @@ use Rattle.access.specs.declared.Physical.the-variants.{Address, None}
 use Rattle.access.specs.declared.Translation.{Translation}
 use Rattle.store.specs.Sweep.{keptAt}
 use Rattle.mmu.specs.ServedAccess.{outcomeOf, missed}
-use Rattle.sequence.specs.Reader.{Settings, settingsOf, leafAnswer}
+use Rattle.sequence.specs.Reader.{settingsOf, leafAnswer}
 use Rattle.sequence.proofs.Invariant.{Inv, LeafFor, matched-leaf}
 
 -- the address or fault value of a raw access

@@ -24,7 +24,7 @@ pub data Call : Type 0 where
 -- the number that a call is refused with; 0 where it is accepted
 unfoldable pub refusal : Call → ℕ
 refusal (ServedAccess given a) = servedRefusal given a
-refusal (TableStore given p) = storeRefusal given p
+refusal (TableStore given p) = storeRefusal given (p .index)
 refusal (GuardedSetting given number value) = settingRefusal given number value
 
 unfoldable pub accepted : Call → Bool

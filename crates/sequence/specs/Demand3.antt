@@ -20,7 +20,7 @@ use Rattle.sequence.specs.Reader.{Reader, startReader, settingsOf}
 use Rattle.sequence.specs.Account.{Slots, startSlots, tryMisses}
 use Rattle.sequence.specs.Effects.{Effect, readerDoes, slotsDo, AnswerOwed, CountOwed, loadsOwed}
 use Rattle.sequence.specs.Effects.Effect.{Keep, Serve, Rewrite, Set}
-use Rattle.sequence.specs.Calls.{Call, Event, refusal, accepted, effectOf, handed, leftBy, Promised}
+use Rattle.sequence.specs.Calls.{Event, refusal, accepted, effectOf, handed, leftBy, Promised}
 use Rattle.sequence.specs.Requests.{Request, callOn, ownRefusal}
 
 -- the unit's registers and runs as the start or the last accepted call left them, the reader, and the account of the slots

@@ -1,7 +1,7 @@
 -- What an accepted call does: one of four effects. The reader and the account of the slots go by effects and not by calls.
 use Prim.Native.Nat.{ℕ, _+_}
 use mathlib.Core.Path.{_≡_}
-use mathlib.Core.Bool.{Bool, cond, _&&_}
+use mathlib.Core.Bool.{cond, _&&_}
 use mathlib.Core.List.{List, [], _∷_}
 use Rattle.runs.specs.Bits.{bit}
 use Rattle.registers.specs.declared.Access.{Access}

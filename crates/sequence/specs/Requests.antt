@@ -1,18 +1,14 @@
 -- A request is a call's own arguments. Put to a machine it is a call that is handed the machine's registers and runs.
 use Prim.Native.Nat.{ℕ}
-use mathlib.Core.List.{List, [], _∷_}
-use mathlib.Core.Bool.{cond}
+use mathlib.Core.List.{List}
 use Rattle.registers.specs.Fields.{fitsAt}
 use Rattle.registers.specs.Refusals.{refuseUnless, drawFits}
 use Rattle.registers.specs.declared.Access.{Access}
-use Rattle.registers.specs.declared.Reply.{Reply}
-use Rattle.slots.specs.Buffer.{Buffer}
 use Rattle.store.specs.Machine.{Machine}
 use Rattle.store.specs.Rewrite.{Put}
-use Rattle.store.specs.TableStore.{indexFits, storeReply, bufferAfterStore, wordsAfterStore}
-use Rattle.control.specs.Setting.{isGuarded, switchFits, settingReply}
-use Rattle.mmu.specs.ServedAccess.{servedReply, servedBuffer}
-use Rattle.sequence.specs.Calls.{Call, Event, accepted, leftBy}
+use Rattle.store.specs.TableStore.{indexFits}
+use Rattle.control.specs.Setting.{isGuarded, switchFits}
+use Rattle.sequence.specs.Calls.{Call}
 use Rattle.sequence.specs.Calls.Call.{ServedAccess, TableStore, GuardedSetting}
 
 pub data Request : Type 0 where

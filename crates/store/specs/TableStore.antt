@@ -19,12 +19,12 @@ use Rattle.store.specs.Rewrite.{Put, written}
 unfoldable pub indexFits : (words : List ℕ) (index : ℕ) → Bool
 indexFits words index = ltb index (length words)
 
-unfoldable pub storeRefusal : Machine → Put → ℕ
-storeRefusal m p =
+unfoldable pub storeRefusal : Machine → (index : ℕ) → ℕ
+storeRefusal m index =
     refuseUnless (registersFit (m .registers)) 1
     (refuseUnless (bufferFits (m .buffer)) 2
     (refuseUnless (tablesFit (m .words)) 3
-    (refuseUnless (indexFits (m .words) (p .index)) 6 0)))
+    (refuseUnless (indexFits (m .words) index) 6 0)))
 
 -- the words with the one written
 unfoldable pub storedWords : Machine → Put → List ℕ
@@ -33,17 +33,17 @@ storedWords m p = written (p ∷ []) (m .words)
 -- "the number of emptied slots is the answer"; "registers stay"
 unfoldable pub storeReply : Machine → Put → Reply
 storeReply m p =
-    byRefusal (storeRefusal m p) (done (m .registers) (emptied (storedWords m p) (m .buffer))) (refused (m .registers) (storeRefusal m p))
+    byRefusal (storeRefusal m (p .index)) (done (m .registers) (emptied (storedWords m p) (m .buffer))) (refused (m .registers) (storeRefusal m (p .index)))
 
 unfoldable pub bufferAfterStore : Machine → Put → Buffer
-bufferAfterStore m p = byRefusal (storeRefusal m p) (swept (storedWords m p) (m .buffer)) (m .buffer)
+bufferAfterStore m p = byRefusal (storeRefusal m (p .index)) (swept (storedWords m p) (m .buffer)) (m .buffer)
 
 unfoldable pub wordsAfterStore : Machine → Put → List ℕ
-wordsAfterStore m p = byRefusal (storeRefusal m p) (storedWords m p) (m .words)
+wordsAfterStore m p = byRefusal (storeRefusal m (p .index)) (storedWords m p) (m .words)
 
 -- what the call promises
 pub record TableStoreGives (m : Machine) (p : Put) (reply : Reply) (buffer-after : Buffer) (words-after : List ℕ) : Type 0 where
-  pub refusal-is : refusalOf (reply .outcome) ≡ storeRefusal m p
+  pub refusal-is : refusalOf (reply .outcome) ≡ storeRefusal m (p .index)
   pub reply-is : reply ≡ storeReply m p
   pub buffer-is : buffer-after ≡ bufferAfterStore m p
   pub words-are : words-after ≡ wordsAfterStore m p

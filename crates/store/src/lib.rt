@@ -93,8 +93,7 @@ fn rewrite(buffer: &mut [u64], words: &mut [u32], index: u32, value: u32) -> u32
 
 fn store_refusal(r: Registers, buffer: &[u64], words: &[u32], index: u32) -> u32
     ensures { λ n. ⌜ n ≡ storeRefusal
-        (record { registers = r; buffer = Buffer.Wide (now (buffer .entry)); words = now (words .entry) })
-        (record { index = index; value = 0 }) ⌝ }
+        (record { registers = r; buffer = Buffer.Wide (now (buffer .entry)); words = now (words .entry) }) index ⌝ }
 {
     if !registers::registers_fit(r) {
         return 1;

@@ -1,3 +1,4 @@
+use mathlib.Core.Path.{sym, _∙_}
 use Rattle.store.proofs.StoreLaws.{store-accepted, store-refused, store-done}
 use borrow.Author.Needs.{needs}
 use Rattle.store.proofs.table_store.Statement.{statement}
@@ -16,10 +17,10 @@ same-length-2 : tie.Need-same-length-2
 same-length-2 c = search needs
 
 returns : tie.Need-returns
-returns c = store-refused _ _ _ (c .before .before .store-refusal .ensures) _ _ (c .before .if1 .taken) (c .refused .ensures)
+returns c = store-refused _ _ _ (c .before .before .store-refusal .ensures) _ (c .before .if1 .taken) (c .refused .ensures)
 
 rewrite-requires : tie.Need-rewrite-requires
-rewrite-requires c κs = store-accepted _ _ _ (c .before .before .before .store-refusal .ensures) (c .before .before .if1 .left)
+rewrite-requires c κs = store-accepted _ _ (sym (c .before .before .before .store-refusal .ensures) ∙ c .before .before .if1 .left)
 
 done-requires : tie.Need-done-requires
 done-requires c κs = search needs
@@ -31,7 +32,7 @@ same-length-4 : tie.Need-same-length-4
 same-length-4 c = search needs
 
 returns-2 : tie.Need-returns-2
-returns-2 c = store-done _ _ _ (c .before .before .before .before .before .before .before .before .before .store-refusal .ensures) _ _ _ _ _
+returns-2 c = store-done _ _ _ (c .before .before .before .before .before .before .before .before .before .store-refusal .ensures) _ _ _ _
     (c .before .before .before .before .before .before .before .before .if1 .left)
     (c .before .before .before .before .before .rewrite .ensures) (c .done .ensures)
 

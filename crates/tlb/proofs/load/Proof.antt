@@ -15,8 +15,11 @@ slot-of-requires : tie.Need-slot-of-requires
 slot-of-requires c κs = omega (arith, searched-lt (c .search .ensures) (c .before .before .before .pre .1))
 
 put-slot-requires : tie.Need-put-slot-requires
-put-slot-requires c κs = (c .before .before .before .before .before .pre .0, subst (λ (n : ℕ). n < 64) (sym (c .before .slot-of .ensures))
-    (slot-lt _ _ (omega (arith, searched-lt (c .before .before .search .ensures) (c .before .before .before .before .before .pre .1)))))
+put-slot-requires c κs = (
+  c .before .before .before .before .before .pre .0,
+  subst (λ (n : ℕ). n < 64) (sym (c .before .slot-of .ensures))
+      (slot-lt _ _ (omega (arith, searched-lt (c .before .before .search .ensures) (c .before .before .before .before .before .pre .1)))),
+)
 
 same-length : tie.Need-same-length
 same-length c = search needs
