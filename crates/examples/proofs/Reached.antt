@@ -19,7 +19,7 @@ use Rattle.sequence.specs.Demand3.{HoldsThroughout}
 use Rattle.sequence.specs.Demand3.Moment.{Start}
 use Rattle.sequence.specs.Asks.{eventsOf, StraysRefused}
 use Rattle.sequence.proofs.Asking.{of-every-list}
-use Rattle.examples.specs.Setting.{registersWith, enabled, started}
+use Rattle.examples.specs.Setting.{registersWith, enabled, started, user}
 use Rattle.examples.specs.Walks.{tables, good}
 use Rattle.examples.specs.Served.{machine, reading}
 use Rattle.examples.specs.Sequences.{lent, fresh, outcomes, strays}
@@ -35,7 +35,7 @@ words-fit = refl
 strays-refused : StraysRefused (outcomes ++ strays)
 unfolding StraysRefused outcomes strays accepted refusal servedRefusal storeRefusal settingRefusal refuseUnless registersFit all fitsAt field
     toWords fromWords widths put zeroRegisters registersWith enabled started bufferFits withSlot emptyFirst startBuffer tablesFit lengthFits
-    tables good machine reading drawFits mayBeServed isSet indexFits
+    tables good machine reading user drawFits mayBeServed isSet indexFits
 strays-refused = (refl, (refl, (refl, (refl, (refl, (refl, (refl, (refl, (refl, tt)))))))))
 
 pub reached : HoldsThroughout (fresh 2048) Start (eventsOf (fresh 2048) (outcomes ++ strays))
