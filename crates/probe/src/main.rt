@@ -109,8 +109,38 @@ fn walk(tables: &[u32], id: u32, vpn: u32, registers: Registers) -> Answer {
     walk_answer(found, registers)
 }
 
+// Makes a call that takes the table words; kind 8 makes none, and answers how many there are.
+fn table_call(q: Request, buffer: &mut [u64], tables: &mut [u32]) -> Answer
+    requires { ⌜ length (now tables) ≤ 16384 ⌝ }
+{
+    let r = q.registers;
+    if q.kind == 4 {
+        return walk(tables, q.first, q.second, r);
+    }
+    if q.kind == 5 {
+        return reply_answer(mmu::served_access(
+            r,
+            buffer,
+            tables,
+            q.first,
+            q.second != 0,
+            q.third != 0,
+            q.fourth,
+        ));
+    }
+    if q.kind == 6 {
+        return reply_answer(store::table_store(r, buffer, tables, q.first, q.second));
+    }
+    if q.kind == 7 {
+        return reply_answer(control::guarded_setting(r, q.first, q.second));
+    }
+    answered(tables.len() as u32, 0, 0, 0, r)
+}
+
 // Makes the call that a request names.
-fn call(q: Request, buffer: &mut [u64], tables: &[u32]) -> Answer {
+fn call(q: Request, buffer: &mut [u64], tables: &mut [u32]) -> Answer
+    requires { ⌜ length (now tables) ≤ 16384 ⌝ }
+{
     let r = q.registers;
     if q.kind == 0 {
         return reply_answer(control::start(buffer));
@@ -131,7 +161,7 @@ fn call(q: Request, buffer: &mut [u64], tables: &[u32]) -> Answer {
     if q.kind == 3 {
         return read_answer(control::read_register(r, q.first));
     }
-    walk(tables, q.first, q.second, r)
+    table_call(q, buffer, tables)
 }
 
 // Fills the run from standard input, by way of the bytes; false where the input ends before.
@@ -186,6 +216,18 @@ fn write_answer(a: Answer, numbers: &[u64], bytes: &mut [u8])
     io::write_all(1, bytes);
 }
 
+// Writes the table words, by way of the bytes, where the kind is 8.
+fn write_tables(kind: u32, tables: &[u32], bytes: &mut [u8])
+    requires { ⌜ (length (now tables) ≤ 16384) × (length (now bytes) ≡ 65536) ⌝ }
+{
+    if kind != 8 {
+        return;
+    }
+    let end = 4 * tables.len();
+    wire::encode32(tables, &mut bytes[..end]);
+    io::write_all(1, &bytes[..end]);
+}
+
 // The request that a head of nineteen words holds; a kind that is none where the input has ended.
 fn requested(got: bool, w: [u32; 19]) -> Request {
     let registers = registers::from_words([
@@ -202,7 +244,7 @@ fn requested(got: bool, w: [u32; 19]) -> Request {
         w[18],
     ]);
     Request {
-        kind: if got { w[0] } else { 5 },
+        kind: if got { w[0] } else { 9 },
         first: w[1],
         second: w[2],
         third: w[3],
@@ -234,7 +276,22 @@ fn read_tables(bytes: &mut [u8], tables: &mut [u32], count: usize, held: usize) 
     END
 }
 
-// Reads a request's runs, makes its call, and writes the answer; answers how many table words are held then.
+// Makes a request's call over its runs, and writes the answer.
+fn reply(
+    q: Request,
+    bytes: &mut [u8],
+    buffer: &mut [u64],
+    table_bytes: &mut [u8],
+    tables: &mut [u32],
+)
+    requires { ⌜ (length (now bytes) ≡ 8 * length (now buffer)) × (length (now «table_bytes») ≡ 65536) × (length (now tables) ≤ 16384) ⌝ }
+{
+    let a = call(q, buffer, tables);
+    write_answer(a, buffer, bytes);
+    write_tables(q.kind, tables, table_bytes);
+}
+
+// Reads a request's runs and replies; answers how many table words are held then.
 fn serve(
     q: Request,
     bytes: &mut [u8],
@@ -256,8 +313,7 @@ fn serve(
     if 16384 < now {
         return END;
     }
-    let a = call(q, buffer, &tables[..now]);
-    write_answer(a, buffer, bytes);
+    reply(q, bytes, buffer, table_bytes, &mut tables[..now]);
     now
 }
 
@@ -273,7 +329,7 @@ fn step(
         × (length (now «table_bytes») ≡ 65536) × (length (now tables) ≡ 16384) ⌝ }
 {
     let q = read_request();
-    if 4 < q.kind {
+    if 8 < q.kind {
         return END;
     }
     let slots = q.slots as usize;

@@ -3,12 +3,15 @@ use lib.ListN.{length-take}
 use borrow.Author.Needs.{needs}
 use Rattle.probe.proofs.serve.Statement.{statement}
 use Rattle.probe.proofs.serve.Tie as tie
+use Rattle.probe.proofs.read_numbers.Reads as read-numbers-reads
+use Rattle.probe.proofs.read_tables.Reads as read-tables-reads
+use Rattle.probe.proofs.reply.Reads as reply-reads
 
 cast-words : tie.Need-cast-words
 cast-words c = search needs
 
 returns : tie.Need-returns
-returns c = tt
+returns c = search needs
 
 read-numbers-requires : tie.Need-read-numbers-requires
 read-numbers-requires c κs = search needs
@@ -20,7 +23,7 @@ same-length-2 : tie.Need-same-length-2
 same-length-2 c = search needs
 
 returns-2 : tie.Need-returns-2
-returns-2 c = tt
+returns-2 c = search needs
 
 read-tables-requires : tie.Need-read-tables-requires
 read-tables-requires c κs = search needs
@@ -38,29 +41,19 @@ same-length-6 : tie.Need-same-length-6
 same-length-6 c = search needs
 
 returns-3 : tie.Need-returns-3
-returns-3 c = tt
+returns-3 c = search needs
 
-slice-reshare-prefix-call : tie.Need-slice-reshare-prefix-call
-slice-reshare-prefix-call c = search needs
+slice-relend-prefix-reply : tie.Need-slice-relend-prefix-reply
+slice-relend-prefix-reply c = search needs
 
-slice-aggregate-call : tie.Need-slice-aggregate-call
-slice-aggregate-call c = simp length-take (omega arith)
+slice-aggregate-reply : tie.Need-slice-aggregate-reply
+slice-aggregate-reply c = simp length-take (omega arith)
 
-call-requires : tie.Need-call-requires
-call-requires c κs = search needs
-
-write-answer-requires : tie.Need-write-answer-requires
-write-answer-requires c κs = omega (
-  arith,
-  c .before .before .before .before .before .before .before .before .before .before .before
-      .before .before .before .before .before .before .before .before .before .before .before .before .before .before .before .before
-      .before .before .pre .0,
-  c .before .before .before .before .before .before .before .before .before .before .before .before .before
-      .before .before .before .before .before .before .bytes .given,
-  c .before .before .before .before .before .before .before
-      .before .before .before .before .before .before .before .before .before .before .buffer .given,
-  c .before .before .before
-      .buffer2 .given,
+reply-requires : tie.Need-reply-requires
+reply-requires c κs = (
+  omega (arith, c .before .before .before .before .before .before .before .before .before .before .before .before .before .before .before .before .before .before .before .before .before .before .before .before .before .before .pre .0, c .before .before .before .before .before .before .before .before .before .before .before .before .before .before .before .before .bytes .given, c .before .before .before .before .before .before .before .before .before .before .before .before .before .before .buffer .given),
+  omega (arith, c .before .before .before .before .before .before .before .before .before .before .before .before .before .before .before .before .before .before .before .before .before .before .before .before .before .before .pre .1, c .before .before .before .before .before .before .before .before .table-bytes .given),
+  simp length-take (omega arith),
 )
 
 same-length-7 : tie.Need-same-length-7
@@ -76,7 +69,7 @@ same-length-10 : tie.Need-same-length-10
 same-length-10 c = search needs
 
 returns-4 : tie.Need-returns-4
-returns-4 c = tt
+returns-4 c = search needs
 
 pub serve-spec : {M : Type 1} → statement M
 serve-spec =
@@ -94,10 +87,9 @@ serve-spec =
     same-length-5
     same-length-6
     returns-3
-    slice-reshare-prefix-call
-    slice-aggregate-call
-    call-requires
-    write-answer-requires
+    slice-relend-prefix-reply
+    slice-aggregate-reply
+    reply-requires
     same-length-7
     same-length-8
     same-length-9
