@@ -32,7 +32,7 @@ use Rattle.control.specs.Reading.{readRefusal, readReply}
 use Rattle.control.specs.Setting.{isGuarded, switchFits, settingRefusal, settingReply}
 use Rattle.sequence.specs.Calls.{refusal, accepted, effectOf, leftBy}
 use Rattle.sequence.specs.Requests.{callOn}
-use Rattle.sequence.specs.Demand3.{begun, systemAfter}
+use Rattle.sequence.specs.Systems.{begun, systemAfter}
 use Rattle.sequence.specs.Asks.{callOf, eventOf, eventsOf, linesOf}
 use Rattle.examples.specs.Claims.{Values, allComputed, allOwed}
 use Rattle.examples.specs.Setting.{registersWith, enabled, enabledAfter, started, user, supervisor, replied, entryWith, oneEntry}

@@ -1,5 +1,4 @@
 -- Demand 3 speaks of the sequence that reaches every outcome: its stray calls are refused. Assumes nothing.
-use Prim.Native.Nat.{ℕ}
 use mathlib.Core.Path.{_≡_, refl}
 use mathlib.Core.Bool.{true}
 use mathlib.Core.List.{_++_}
@@ -16,7 +15,7 @@ use Rattle.control.specs.Setting.{settingRefusal}
 use Rattle.mmu.specs.ServedAccess.{mayBeServed, servedRefusal}
 use Rattle.sequence.specs.Calls.{refusal, accepted}
 use Rattle.sequence.specs.Demand3.{HoldsThroughout}
-use Rattle.sequence.specs.Demand3.Moment.{Start}
+use Rattle.sequence.specs.Systems.Moment.{Start}
 use Rattle.sequence.specs.Asks.{eventsOf, StraysRefused}
 use Rattle.sequence.proofs.Asking.{of-every-list}
 use Rattle.examples.specs.Setting.{registersWith, enabled, started, user}

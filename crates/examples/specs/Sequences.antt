@@ -12,7 +12,7 @@ use Rattle.slots.specs.Buffer.Buffer.{Wide}
 use Rattle.control.specs.Starting.{startReply, startedBuffer}
 use Rattle.sequence.specs.Calls.Call.{ServedAccess, TableStore, GuardedSetting}
 use Rattle.sequence.specs.Requests.Request.{ToAccess, ToStore, ToSet}
-use Rattle.sequence.specs.Demand3.{System, begun}
+use Rattle.sequence.specs.Systems.{System, begun}
 use Rattle.sequence.specs.Asks.{Ask, Line, eventsOf, linesOf}
 use Rattle.sequence.specs.Asks.Ask.{Now, Stray}
 use Rattle.examples.specs.Claims.{Example, _gives_}

@@ -16,8 +16,9 @@ use Rattle.sequence.specs.Calls.{Call, accepted, handed, Promise, Promis
 use Rattle.sequence.specs.Calls.Call.{ServedAccess, TableStore, GuardedSetting}
 use Rattle.sequence.specs.Requests.{Request, callOn}
 use Rattle.sequence.specs.Requests.Request.{ToAccess, ToStore, ToSet}
-use Rattle.sequence.specs.Demand3.{System, begun, HoldsThroughout, Handed, HandedThroughout, Demand3}
-use Rattle.sequence.specs.Demand3.Moment.{Start}
+use Rattle.sequence.specs.Systems.{System, begun}
+use Rattle.sequence.specs.Demand3.{HoldsThroughout, Handed, HandedThroughout, Demand3}
+use Rattle.sequence.specs.Systems.Moment.{Start}
 use Rattle.sequence.specs.Asks.{Ask, callOf, eventOf, eventsOf, StraysRefused}
 use Rattle.sequence.specs.Asks.Ask.{Now, Stray}
 use Rattle.sequence.proofs.Theorem.{demand3}

@@ -18,7 +18,8 @@ use Rattle.sequence.specs.Calls.{Call, Event, refusal, accepted, handed,
 use Rattle.sequence.specs.Calls.Call.{ServedAccess, TableStore, GuardedSetting}
 use Rattle.sequence.specs.Requests.{Request, callOn, ownRefusal}
 use Rattle.sequence.specs.Requests.Request.{ToAccess, ToStore, ToSet}
-use Rattle.sequence.specs.Demand3.{System, RefusalHasNoEffect}
+use Rattle.sequence.specs.Systems.{System}
+use Rattle.sequence.specs.Sentences.{RefusalHasNoEffect}
 use Rattle.sequence.proofs.EffectLaws.{Sound, off}
 
 -- ---- a refused call

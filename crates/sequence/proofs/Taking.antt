@@ -35,7 +35,8 @@ use Rattle.sequence.specs.Effects.{rewritten, emptiedAll, AnswerOwed, Co
 use Rattle.sequence.specs.Effects.Effect.{Serve}
 use Rattle.sequence.specs.Calls.{Call, refusal, accepted, effectOf, handed, Promise}
 use Rattle.sequence.specs.Calls.Call.{ServedAccess, TableStore, GuardedSetting}
-use Rattle.sequence.specs.Demand3.{System, FirstTryAgrees, NoneStored}
+use Rattle.sequence.specs.Systems.{System}
+use Rattle.sequence.specs.Sentences.{FirstTryAgrees, NoneStored}
 use Rattle.sequence.proofs.Tries.{Kept}
 use Rattle.sequence.proofs.Serving.{readerOf, access-loads, access-keeps, access-answer}
 use Rattle.sequence.proofs.Following.{SameSlots, misses-same, emptied-same}

@@ -30,9 +30,11 @@ use Rattle.control.specs.Starting.{startRefusal, startReply, startedBuffer, Sta
 use Rattle.sequence.specs.Reader.{Reader, startReader, settingsOf}
 use Rattle.sequence.specs.Account.{Slots, startSlots}
 use Rattle.sequence.specs.Calls.{Event, refusal, accepted, effectOf, leftBy, Promised}
-use Rattle.sequence.specs.Demand3.{System, begun, systemAfter, Moment, IfAccepted, IfRefused, Answered, Counted, Loaded}
-use Rattle.sequence.specs.Demand3.{RefusalHasNoEffect, SlotIs, InService, Holds, HoldsThroughout, Handed, HandedThroughout, Demand3}
-use Rattle.sequence.specs.Demand3.Moment.{Start, After}
+use Rattle.sequence.specs.Systems.{System, begun, systemAfter, Moment, IfAccepted, IfRefused}
+use Rattle.sequence.specs.Sentences.{Answered, Counted, Loaded}
+use Rattle.sequence.specs.Sentences.{RefusalHasNoEffect, SlotIs, InService}
+use Rattle.sequence.specs.Demand3.{Holds, HoldsThroughout, Handed, HandedThroughout, Demand3}
+use Rattle.sequence.specs.Systems.Moment.{Start, After}
 use Rattle.sequence.proofs.Invariant.{Inv, start-inv}
 use Rattle.sequence.proofs.Serving.{readerOf}
 use Rattle.sequence.proofs.Following.{SameSlots, start-same}

@@ -11,7 +11,7 @@ use Rattle.mmu.specs.ServedAccess.{servedReply, servedBuffer}
 use Rattle.sequence.specs.Calls.{Call, Event, accepted}
 use Rattle.sequence.specs.Calls.Call.{ServedAccess, TableStore, GuardedSetting}
 use Rattle.sequence.specs.Requests.{Request, callOn}
-use Rattle.sequence.specs.Demand3.{System, systemAfter}
+use Rattle.sequence.specs.Systems.{System, systemAfter}
 
 pub data Ask : Type 0 where
   Now : (q : Request) → Ask

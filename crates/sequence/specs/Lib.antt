@@ -3,5 +3,7 @@ pub mod Account
 pub mod Effects
 pub mod Calls
 pub mod Requests
+pub mod Systems
+pub mod Sentences
 pub mod Demand3
 pub mod Asks
