@@ -18,7 +18,7 @@ use Rattle.slots.specs.Start.{startBuffer}
 use Rattle.control.specs.Starting.{startRefusal, startReply, startedBuffer, StartGives}
 use Rattle.control.specs.Writing.{isRegister, writeRefusal, writtenEntry, writtenBuffer, writeReply, bufferAfterWrite, WriteGives}
 use Rattle.control.specs.Reading.{readRefusal, readReply, ReadGives}
-use Rattle.control.specs.Setting.{isGuarded, switchFits, settingRefusal, settingReply, GuardedSettingGives}
+use Rattle.control.specs.Setting.{isGuarded, switchFits, argumentRefusal, settingRefusal, settingReply, GuardedSettingGives}
 
 pub number-below : (number : ℕ) (t : Bool) → t ≡ isRegister number → not t ≡ false → number < 10
 unfolding isRegister
@@ -56,7 +56,7 @@ unfolding isGuarded
 guarded-below number t q h = omega (arith, leb-true number 5 (sym q ∙ not-false t h))
 
 pub setting-accepted : (r : Registers) (number value : ℕ) → settingRefusal r number value ≡ 0 → number < 11
-unfolding settingRefusal
+unfolding settingRefusal argumentRefusal
 setting-accepted r number value h =
     let one = passed (registersFit r) 1 _ (λ e. omega arith) h in
     let five = passed (switchFits number value) 5 _ (λ e. omega arith) (one .1) in

@@ -18,12 +18,12 @@ unfoldable pub switchFits : (number value : ℕ) → Bool
 switchFits number value = not (eqb number CONTEXT) || leb value 62
 
 -- number 7: unknown register number, or a value too large for it
+unfoldable pub argumentRefusal : (number value : ℕ) → ℕ
+argumentRefusal number value =
+    refuseUnless (switchFits number value) 5 (refuseUnless (isGuarded number) 7 (refuseUnless (fitsAt number value) 7 0))
+
 unfoldable pub settingRefusal : Registers → (number value : ℕ) → ℕ
-settingRefusal r number value =
-    refuseUnless (registersFit r) 1
-    (refuseUnless (switchFits number value) 5
-    (refuseUnless (isGuarded number) 7
-    (refuseUnless (fitsAt number value) 7 0)))
+settingRefusal r number value = refuseUnless (registersFit r) 1 (argumentRefusal number value)
 
 -- the register gets the value, and no other changes
 unfoldable pub settingReply : Registers → (number value : ℕ) → Reply

@@ -29,9 +29,10 @@ use Rattle.mmu.specs.ServedAccess.{afterMiss, bufferAfterMiss, firstTry, walkFo
 use Rattle.control.specs.Starting.{startRefusal, startReply, startedBuffer}
 use Rattle.control.specs.Writing.{isRegister, writeRefusal, writtenEntry, writtenBuffer, writeReply, bufferAfterWrite}
 use Rattle.control.specs.Reading.{readRefusal, readReply}
-use Rattle.control.specs.Setting.{isGuarded, switchFits, settingRefusal, settingReply}
-use Rattle.sequence.specs.Calls.{refusal, accepted, effectOf, leftBy}
-use Rattle.sequence.specs.Requests.{callOn}
+use Rattle.control.specs.Setting.{isGuarded, switchFits, argumentRefusal, settingRefusal, settingReply}
+use Rattle.sequence.specs.Calls.{refusal, accepted, requestOf, effectBy, leftBy}
+use Rattle.sequence.specs.Requests.{effectOf}
+use Rattle.sequence.specs.Calls.{callOn}
 use Rattle.sequence.specs.Systems.{begun, systemAfter}
 use Rattle.sequence.specs.Asks.{callOf, eventOf, eventsOf, linesOf}
 use Rattle.examples.specs.Claims.{Values, allComputed, allOwed}
@@ -44,25 +45,27 @@ use Rattle.examples.specs.Calls.{short, caused, calls, largest, fields}
 use Rattle.examples.specs.Walks.{tables, good, shared, globalBroken, walks}
 use Rattle.examples.specs.Served.{machine, agedEntry, aged, reading, served}
 use Rattle.examples.specs.Stores.{entryOf, agreeing, sweeps, numbers, stores, settings}
+use Rattle.examples.specs.Ends.{last, ends}
 use Rattle.examples.specs.Sequences.{lent, fresh, worked, workedLines, strays, strayLines, outcomes}
 use Rattle.examples.specs.Sequences.{outcomeLines, sequences}
 use Rattle.examples.specs.Examples.{examples}
 
 pub all-hold : allComputed examples ≡ allOwed examples
-unfolding all count lowest vpnOf offsetOf location vpn15Of slotOf setOf unpack join lowBits pack emptyFields emptyEntry toWords
-    fromWords field put widths fitsAt registersFit zeroRegisters refuseUnless byRefusal drawFits present reserved number stretchSize
-    indexIn inside broken leafAt stopAt indexBelow descend walkTree globalFirst walkPage bufferFits slotAt withSlot emptyFirst
-    startBuffer validOrInvExc vpn15Matches idMatchesOrGlobal matchesPage hit fieldsAt setHits hitCount hitSet segmentOf inLinearSegment
-    nibble segmentBase linearAddress invExc accExc weExc writeError accessViolation invalidPage exceptionValue pageAddress isSet
-    noException withCause exceptionAddress interrupts exceptionAnswer hitValue onHit byHitCount foundSet pageMapped translate
-    rawRefusal rawReply startRefusal startReply startedBuffer isRegister writeRefusal writtenEntry writtenBuffer writeReply
-    bufferAfterWrite readRefusal readReply Values allComputed allOwed registersWith enabled enabledAfter started user supervisor
-    replied entryWith oneEntry twoEntries slotsOf linear selected marked row rowAfter kernelPage openPage rows based segments tooWide
-    refusals exceptions globalEntry highBits hits short caused calls largest fields tables good shared globalBroken walks vpnAt sameLow sameEntry leafValid leafKernel
-    leafWe leafPfn lengthFits tablesFit walkFault setMatches loadSlot loadedBuffer leafEntry isEmpty agreesWithLeaf agreesWithTables kept keptAt
+unfolding all count lowest vpnOf offsetOf location vpn15Of slotOf setOf unpack join lowBits pack emptyFields emptyEntry toWords fromWords
+    field put widths fitsAt registersFit zeroRegisters refuseUnless byRefusal drawFits present reserved number stretchSize indexIn inside
+    broken leafAt stopAt indexBelow descend walkTree globalFirst walkPage bufferFits slotAt withSlot emptyFirst startBuffer validOrInvExc
+    vpn15Matches idMatchesOrGlobal matchesPage hit fieldsAt setHits hitCount hitSet segmentOf inLinearSegment nibble segmentBase
+    linearAddress invExc accExc weExc writeError accessViolation invalidPage exceptionValue pageAddress isSet noException withCause
+    exceptionAddress interrupts exceptionAnswer hitValue onHit byHitCount foundSet pageMapped translate rawRefusal rawReply startRefusal
+    startReply startedBuffer isRegister writeRefusal writtenEntry writtenBuffer writeReply bufferAfterWrite readRefusal readReply Values
+    allComputed allOwed registersWith enabled enabledAfter started user supervisor replied entryWith oneEntry twoEntries slotsOf linear
+    selected marked row rowAfter kernelPage openPage rows based segments tooWide refusals exceptions globalEntry highBits hits short
+    caused calls largest fields tables good shared globalBroken walks vpnAt sameLow sameEntry leafValid leafKernel leafWe leafPfn
+    lengthFits tablesFit walkFault setMatches loadSlot loadedBuffer leafEntry isEmpty agreesWithLeaf agreesWithTables kept keptAt
     sweptSlot sweptFirst swept emptied written indexFits storeRefusal storedWords storeReply bufferAfterStore wordsAfterStore mayBeServed
     servedRefusal outcomeOf triedReply missed loadedAt registersLoaded bufferLoaded afterMiss bufferAfterMiss firstTry walkFor accessReply
-    accessBuffer servedReply servedBuffer isGuarded switchFits settingRefusal settingReply refusal accepted effectOf leftBy callOn begun
-    systemAfter callOf eventOf eventsOf linesOf machine agedEntry aged reading served entryOf agreeing sweeps numbers stores settings lent
-    fresh worked workedLines strays strayLines outcomes outcomeLines sequences examples
+    accessBuffer servedReply servedBuffer isGuarded switchFits settingRefusal argumentRefusal settingReply refusal accepted effectBy
+    requestOf effectOf leftBy callOn begun systemAfter callOf eventOf eventsOf linesOf machine agedEntry aged reading served entryOf
+    agreeing sweeps numbers stores settings last ends lent fresh worked workedLines strays strayLines outcomes outcomeLines sequences
+    examples
 all-hold = refl

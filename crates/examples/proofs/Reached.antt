@@ -11,7 +11,7 @@ use Rattle.slots.specs.Buffer.{bufferFits, withSlot}
 use Rattle.slots.specs.Start.{emptyFirst, startBuffer}
 use Rattle.access.specs.Translation.{isSet}
 use Rattle.store.specs.TableStore.{indexFits, storeRefusal}
-use Rattle.control.specs.Setting.{settingRefusal}
+use Rattle.control.specs.Setting.{argumentRefusal, settingRefusal}
 use Rattle.mmu.specs.ServedAccess.{mayBeServed, servedRefusal}
 use Rattle.sequence.specs.Calls.{refusal, accepted}
 use Rattle.sequence.specs.Demand3.{HoldsThroughout}
@@ -32,9 +32,9 @@ unfolding tablesFit lengthFits
 words-fit = refl
 
 strays-refused : StraysRefused (outcomes ++ strays)
-unfolding StraysRefused outcomes strays accepted refusal servedRefusal storeRefusal settingRefusal refuseUnless registersFit all fitsAt field
-    toWords fromWords widths put zeroRegisters registersWith enabled started bufferFits withSlot emptyFirst startBuffer tablesFit lengthFits
-    tables good machine reading user drawFits mayBeServed isSet indexFits
+unfolding StraysRefused outcomes strays accepted refusal servedRefusal storeRefusal settingRefusal argumentRefusal refuseUnless
+    registersFit all fitsAt field toWords fromWords widths put zeroRegisters registersWith enabled started bufferFits withSlot emptyFirst
+    startBuffer tablesFit lengthFits tables good machine reading user drawFits mayBeServed isSet indexFits
 strays-refused = (refl, (refl, (refl, (refl, (refl, (refl, (refl, (refl, (refl, tt)))))))))
 
 pub reached : HoldsThroughout (fresh 2048) Start (eventsOf (fresh 2048) (outcomes ++ strays))

@@ -8,7 +8,10 @@ use Rattle.examples.specs.Calls.{calls, fields}
 use Rattle.examples.specs.Walks.{walks}
 use Rattle.examples.specs.Served.{served}
 use Rattle.examples.specs.Stores.{sweeps, stores, settings}
+use Rattle.examples.specs.Ends.{ends}
 use Rattle.examples.specs.Sequences.{sequences}
 
 unfoldable pub examples : List Example
-examples = marked ++ rows ++ segments ++ refusals ++ exceptions ++ hits ++ calls ++ fields ++ walks ++ served ++ sweeps ++ stores ++ settings ++ sequences
+examples =
+    marked ++ rows ++ segments ++ refusals ++ exceptions ++ hits ++ calls ++ fields ++ walks
+    ++ served ++ sweeps ++ stores ++ settings ++ ends ++ sequences

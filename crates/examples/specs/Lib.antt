@@ -3,6 +3,7 @@ pub mod Setting
 pub mod Walks
 pub mod Served
 pub mod Stores
+pub mod Ends
 pub mod Sequences
 pub mod Marked
 pub mod Accesses

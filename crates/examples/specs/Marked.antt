@@ -1,4 +1,4 @@
--- Document 01's marked examples 1 to 4 and 6 to 13. (Example 5 is of the load.)
+-- Document 01's thirteen marked examples.
 use Prim.Native.Nat.{ℕ, _+_, _*_}
 use mathlib.Core.Bool.{true, false}
 use mathlib.Core.List.{List, [], _∷_}

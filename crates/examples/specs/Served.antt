@@ -15,7 +15,8 @@ use Rattle.slots.specs.Buffer.Buffer.{Wide}
 use Rattle.store.specs.Machine.{Machine}
 use Rattle.mmu.specs.ServedAccess.{servedReply, servedBuffer}
 use Rattle.examples.specs.Claims.{Example, _gives_}
-use Rattle.examples.specs.Setting.{reg, registersWith, enabled, enabledAfter, started, user, supervisor, twoEntries, pageVpn, pageByte}
+use Rattle.examples.specs.Setting.{reg, registersWith, enabled, enabledAfter, started, user, supervisor, twoEntries, pageVpn}
+use Rattle.examples.specs.Setting.{pageByte}
 use Rattle.examples.specs.Walks.{tables, good, shared, globalBroken}
 
 unfoldable pub machine : Registers → Buffer → (words : List ℕ) → Machine
@@ -53,13 +54,15 @@ served =
     gives pack (record { vpn15 = 0; «page_id» = 5; global = true; valid = true; kernel = false; we = true; pfn = 0x123 }))
     ∷ (slotAt (servedBuffer (machine (enabled 5 3) (withSlot started 49 (agedEntry 9 false)) shared) reading) 49 gives agedEntry 9 false)
     -- the lowest matching slot
-    ∷ (slotAt (servedBuffer (machine (enabled 5 3) (withSlot (withSlot started 49 (agedEntry 5 false)) 17 (agedEntry 5 false)) good) reading) 17
+    ∷ (slotAt
+    (servedBuffer (machine (enabled 5 3) (withSlot (withSlot started 49 (agedEntry 5 false)) 17 (agedEntry 5 false)) good) reading) 17
     gives 0x02A80123)
     -- absent and broken: as the first try left the registers
     ∷ (servedReply (machine (enabled 5 7) started good) (user true 0x4000 1) gives answered (enabledAfter 5 7 18 2 17) (Fault 16) 0)
     ∷ (servedReply (machine (enabled 5 7) started globalBroken) reading gives answered (enabledAfter 5 7 33 1 16) (Fault 32) 0)
     -- several hits: fault value 0 and no load
-    ∷ (servedReply (machine (enabled 5 7) twoEntries good) (user false pageByte 1) gives answered (enabledAfter 5 7 0 pageVpn 0) (Fault 0) 0)
+    ∷ (servedReply (machine (enabled 5 7) twoEntries good) (user false pageByte 1)
+    gives answered (enabledAfter 5 7 0 pageVpn 0) (Fault 0) 0)
     -- enable off is final; so is a linear segment
     ∷ (servedReply (machine (registersWith (reg CONTEXT 5 ∷ [])) started good) reading
     gives answered (registersWith (reg CONTEXT 5 ∷ [])) (At 0x2ABC) 0)
@@ -72,8 +75,10 @@ served =
     gives refused (registersWith (reg TEST 1 ∷ [])) 2)
     ∷ (servedReply (machine (registersWith (reg TEST 1 ∷ [])) started (replicate 1025 0)) (user true 0 4)
     gives refused (registersWith (reg TEST 1 ∷ [])) 3)
-    ∷ (servedReply (machine (registersWith (reg TEST 1 ∷ [])) started good) (user true 0 4) gives refused (registersWith (reg TEST 1 ∷ [])) 4)
-    ∷ (servedReply (machine (registersWith (reg TEST 1 ∷ [])) started good) (user true 0 3) gives refused (registersWith (reg TEST 1 ∷ [])) 5)
+    ∷ (servedReply (machine (registersWith (reg TEST 1 ∷ [])) started good) (user true 0 4)
+    gives refused (registersWith (reg TEST 1 ∷ [])) 4)
+    ∷ (servedReply (machine (registersWith (reg TEST 1 ∷ [])) started good) (user true 0 3)
+    gives refused (registersWith (reg TEST 1 ∷ [])) 5)
     ∷ (servedReply (machine (enabled 63 0) started good) (user true 0 3) gives refused (enabled 63 0) 5)
     ∷ (servedBuffer (machine (enabled 63 0) (Wide (replicate 64 9)) good) (user true 0 3) gives Wide (replicate 64 9))
     ∷ []

@@ -177,7 +177,8 @@ module _ (m : Machine) (a : Access) (n : ℕ) (nq : n ≡ servedRefusal m a) (re
   pub served-refused : (n ≡ 0 → ⊥) → reply ≡ refused (m .registers) n → ServedAccessGives m a reply (m .buffer)
   unfolding servedReply servedBuffer
   served-refused h q =
-      served-gives m a reply (m .buffer) (when-refused _ n nq _ _ _ h (q ∙ ap (refused (m .registers)) nq)) (when-refused _ n nq _ _ _ h refl)
+      served-gives m a reply (m .buffer) (when-refused _ n nq _ _ _ h (q ∙ ap (refused (m .registers)) nq))
+      (when-refused _ n nq _ _ _ h refl)
 
   pub served-done : (after : Buffer) → n ≡ 0 → AccessGives m a reply after → ServedAccessGives m a reply after
   unfolding servedReply servedBuffer

@@ -51,7 +51,8 @@ outcomeOf None value = Fault value
 unfoldable pub triedReply : Translation → (loads : ℕ) → Reply
 triedReply t loads = answered (t .registers) (outcomeOf (t .physical) (t .value)) loads
 
--- a try missed
+-- A try missed. "With enable off its answer is final and never counts as a miss": an accepted access is out of test mode, and with both
+-- off a try has no exception, so its value is 0.
 unfoldable pub missed : Translation → Bool
 missed t = eqb (t .value) MISS
 
@@ -91,7 +92,7 @@ firstTry m a = translate (m .registers) (m .buffer) a
 unfoldable pub walkFor : Machine → Access → Walk
 walkFor m a = walkPage (m .words) (m .registers .context) (vpnOf (a .address))
 
--- the access, once it is accepted
+-- the access, once it is accepted: "Registers end as these steps leave them."
 unfoldable pub accessReply : Machine → Access → Reply
 accessReply m a =
     cond (missed (firstTry m a)) (afterMiss (walkFor m a) ((firstTry m a) .registers) (m .buffer) a) (triedReply (firstTry m a) 0)

@@ -14,7 +14,8 @@ use Rattle.control.proofs.CallLaws.{start-gives, setting-gives}
 use Rattle.mmu.proofs.ServedLaws.{served-gives}
 use Rattle.sequence.specs.Calls.{Call, accepted, handed, Promise, Promised}
 use Rattle.sequence.specs.Calls.Call.{ServedAccess, TableStore, GuardedSetting}
-use Rattle.sequence.specs.Requests.{Request, callOn}
+use Rattle.sequence.specs.Requests.{Request}
+use Rattle.sequence.specs.Calls.{callOn}
 use Rattle.sequence.specs.Requests.Request.{ToAccess, ToStore, ToSet}
 use Rattle.sequence.specs.Systems.{System, begun}
 use Rattle.sequence.specs.Demand3.{HoldsThroughout, Handed, HandedThroughout, Demand3}

@@ -128,7 +128,8 @@ groups-inv : (gs : List (List Put)) (words : List ℕ) (b : Buffer) → bufferFi
 unfolding rewritten bufferAfter
 groups-inv [] words b f inv = inv
 groups-inv (g ∷ gs) words b f inv =
-    groups-inv gs (written g words) (swept (written g words) b) (swept-fits (written g words) b ∙ f) (sweep-keeps (written g words) b f words inv)
+    groups-inv gs (written g words) (swept (written g words) b) (swept-fits (written g words) b ∙ f)
+    (sweep-keeps (written g words) b f words inv)
 
 groups-same : (gs : List (List Put)) (words : List ℕ) (b : Buffer) (slots : Slots) → bufferFits b ≡ true → SameSlots b slots
     → SameSlots (bufferAfter gs words b) (sweptAll gs words slots)
@@ -139,7 +140,8 @@ groups-same (g ∷ gs) words b slots f same =
     (sweep-same (written g words) b slots f same)
 
 -- a guarded switch stays within 62
-switch-le : (s : Settings) (number value : ℕ) → s .context ≤ 62 → switchFits number value ≡ true → (withGuarded s number value) .context ≤ 62
+switch-le : (s : Settings) (number value : ℕ) → s .context ≤ 62 → switchFits number value ≡ true
+    → (withGuarded s number value) .context ≤ 62
 unfolding withGuarded switchFits
 switch-le s number value l h = go (eqb number 5) h
   where

@@ -64,7 +64,8 @@ module _ (m : Machine) (a : Access) (slots : Slots) (same : SameSlots (m .buffer
 
   -- ---- a load
 
-  module _ (inv : Inv (m .words) (m .buffer)) (fits : bufferFits (m .buffer) ≡ true) (lc : m .registers .context ≤ 62) (ld : a .draw < 4) where
+  module _ (inv : Inv (m .words) (m .buffer)) (fits : bufferFits (m .buffer) ≡ true) (lc : m .registers .context ≤ 62)
+      (ld : a .draw < 4) where
     pub load-same : (x : Walk) → walkFor m a ≡ x
         → SameSlots (bufferAfterMiss x ((firstTry m a) .registers) (m .buffer) a) (slotsLoaded x (settingsOf (m .registers)) slots a)
     unfolding bufferAfterMiss slotsLoaded withEntry walkFor settingsOf

@@ -276,7 +276,8 @@ module _ (words : List ℕ) (b : Buffer) (fits : bufferFits b ≡ true) where
   unfolding sweptEntry keptAt
   swept-fields slot l = ap unpack (swept-at words b slot fits l) ∙ go (kept words slot (unpack (slotAt b slot)))
     where
-      go : (t : Bool) → unpack (cond t (slotAt b slot) (emptyEntry (setOf slot))) ≡ cond t (unpack (slotAt b slot)) (emptyFields (setOf slot))
+      go : (t : Bool) → unpack (cond t (slotAt b slot) (emptyEntry (setOf slot)))
+          ≡ cond t (unpack (slotAt b slot)) (emptyFields (setOf slot))
       go true = refl
       go false = empty-unpacked slot l
 
@@ -295,7 +296,8 @@ module _ (words : List ℕ) (b : Buffer) (fits : bufferFits b ≡ true) where
 
 -- ---- the start
 
-pub start-fields : (b : Buffer) (slot : ℕ) → bufferFits b ≡ true → slot < 64 → unpack (slotAt (startBuffer b) slot) ≡ emptyFields (setOf slot)
+pub start-fields : (b : Buffer) (slot : ℕ) → bufferFits b ≡ true → slot < 64
+    → unpack (slotAt (startBuffer b) slot) ≡ emptyFields (setOf slot)
 start-fields b slot f l = ap unpack (start-at b slot f l) ∙ empty-unpacked slot l
 
 pub start-inv : (words : List ℕ) (b : Buffer) → bufferFits b ≡ true → Inv words (startBuffer b)

@@ -12,11 +12,12 @@ use Rattle.registers.specs.declared.Reply.{Reply}
 use Rattle.slots.specs.Buffer.{Buffer}
 use Rattle.store.specs.Machine.{Machine}
 use Rattle.store.specs.TableStore.{storeRefusal, storeReply, bufferAfterStore, wordsAfterStore}
-use Rattle.control.specs.Setting.{settingRefusal, settingReply}
+use Rattle.control.specs.Setting.{argumentRefusal, settingRefusal, settingReply}
 use Rattle.mmu.specs.ServedAccess.{mayBeServed, servedRefusal, servedReply, servedBuffer}
 use Rattle.sequence.specs.Calls.{Call, Event, refusal, accepted, handed, leftBy, Promise, Promised}
 use Rattle.sequence.specs.Calls.Call.{ServedAccess, TableStore, GuardedSetting}
-use Rattle.sequence.specs.Requests.{Request, callOn, ownRefusal}
+use Rattle.sequence.specs.Requests.{Request, ownRefusal}
+use Rattle.sequence.specs.Calls.{callOn}
 use Rattle.sequence.specs.Requests.Request.{ToAccess, ToStore, ToSet}
 use Rattle.sequence.specs.Systems.{System}
 use Rattle.sequence.specs.Sentences.{RefusalHasNoEffect}
@@ -68,7 +69,7 @@ unfolding mayBeServed
 in-reach r t c = rw (off (r .test) t, ne-eqb (r .context) 63 (λ e. omega arith))
 
 pub own-refusals : (m : Machine) → Sound m → (q : Request) → refusal (callOn m q) ≡ ownRefusal (m .words) q
-unfolding refusal callOn ownRefusal servedRefusal storeRefusal settingRefusal refuseUnless
+unfolding refusal callOn ownRefusal servedRefusal storeRefusal settingRefusal argumentRefusal refuseUnless
 own-refusals m s (ToAccess a) =
     rw (s .registers-fit, s .buffer-fits, s .words-fit, in-reach (m .registers) (s .test-off) (s .context-served))
 own-refusals m s (ToStore p) = rw (s .registers-fit, s .buffer-fits, s .words-fit)

@@ -24,7 +24,7 @@ use Rattle.access.proofs.Keeping.{translate-fits}
 use Rattle.store.specs.Machine.{Machine}
 use Rattle.store.specs.Rewrite.{Put, written}
 use Rattle.store.specs.TableStore.{storedWords, storeReply, bufferAfterStore, wordsAfterStore, TableStoreGives}
-use Rattle.control.specs.Setting.{isGuarded, switchFits, settingRefusal, settingReply, GuardedSettingGives}
+use Rattle.control.specs.Setting.{isGuarded, switchFits, argumentRefusal, settingRefusal, settingReply, GuardedSettingGives}
 use Rattle.mmu.specs.ServedAccess.{servedRefusal, triedReply, missed, loadedAt, registersLoaded, bufferLoaded, afterMiss}
 use Rattle.mmu.specs.ServedAccess.{bufferAfterMiss, firstTry, walkFor, accessReply, accessBuffer, servedReply, servedBuffer}
 use Rattle.mmu.specs.ServedAccess.{ServedAccessGives}
@@ -33,7 +33,8 @@ use Rattle.sequence.specs.Reader.{settingsOf, withGuarded, readerWalk, f
 use Rattle.sequence.specs.Account.{Slots}
 use Rattle.sequence.specs.Effects.{rewritten, emptiedAll, AnswerOwed, CountOwed, loadsOwed}
 use Rattle.sequence.specs.Effects.Effect.{Serve}
-use Rattle.sequence.specs.Calls.{Call, refusal, accepted, effectOf, handed, Promise}
+use Rattle.sequence.specs.Calls.{Call, refusal, accepted, requestOf, effectBy, handed, Promise}
+use Rattle.sequence.specs.Requests.{effectOf}
 use Rattle.sequence.specs.Calls.Call.{ServedAccess, TableStore, GuardedSetting}
 use Rattle.sequence.specs.Systems.{System}
 use Rattle.sequence.specs.Sentences.{FirstTryAgrees, NoneStored}
@@ -46,13 +47,13 @@ unfoldable pub systemOf : Machine → Slots → System
 systemOf m slots = record { machine = m; reader = readerOf m; slots = slots }
 
 pub record Taken (m : Machine) (slots : Slots) (c : Call) (reply : Reply) (buffer : Buffer) (words : List ℕ) : Type 0 where
-  pub fit : Fit (effectOf c)
-  pub leads : Leads m (effectOf c) (record { registers = reply .registers; buffer = buffer; words = words })
-  pub answer : AnswerOwed (readerOf m) (effectOf c) (reply .outcome)
-  pub count : CountOwed (readerOf m) slots (effectOf c) (reply .outcome)
-  pub first-try : FirstTryAgrees (systemOf m slots) (effectOf c)
-  pub loads : reply .loads ≡ loadsOwed (readerOf m) slots (effectOf c)
-  pub else-none : NoneStored (systemOf m slots) (effectOf c) buffer
+  pub fit : Fit (effectBy c)
+  pub leads : Leads m (effectBy c) (record { registers = reply .registers; buffer = buffer; words = words })
+  pub answer : AnswerOwed (readerOf m) (effectBy c) (reply .outcome)
+  pub count : CountOwed (readerOf m) slots (effectBy c) (reply .outcome)
+  pub first-try : FirstTryAgrees (systemOf m slots) (effectBy c)
+  pub loads : reply .loads ≡ loadsOwed (readerOf m) slots (effectBy c)
+  pub else-none : NoneStored (systemOf m slots) (effectBy c) buffer
 
 -- ---- a served access
 
@@ -111,7 +112,7 @@ module _ (m : Machine) (slots : Slots) (s : Sound m) (same : SameSlots (m .buffe
     counted = ap (λ (t : Bool). bit (t && foundLeaf (walkFor m a))) (misses-same m a slots same (off _ (s .test-off)))
 
     access-taken : Taken m slots (ServedAccess m a) reply buffer words
-    unfolding effectOf Fit Leads AnswerOwed CountOwed FirstTryAgrees NoneStored systemOf readerOf
+    unfolding effectBy requestOf effectOf Fit Leads AnswerOwed CountOwed FirstTryAgrees NoneStored systemOf readerOf
     access-taken = record {
       fit = draw-lt (a .draw) (given-ok .draw-fits);
       leads = record {
@@ -136,8 +137,8 @@ module _ (m : Machine) (slots : Slots) (s : Sound m) (same : SameSlots (m .buffe
   module _ (p : Put) (reply : Reply) (buffer : Buffer) (words : List ℕ) (ok : accepted (TableStore m p) ≡ true)
       (g : TableStoreGives m p reply buffer words) where
     store-taken : Taken m slots (TableStore m p) reply buffer words
-    unfolding effectOf Fit Leads AnswerOwed CountOwed FirstTryAgrees NoneStored systemOf loadsOwed accepted refusal storeReply bufferAfterStore
-        wordsAfterStore storedWords byRefusal rewritten bufferAfter emptiedAll readerOf
+    unfolding effectBy requestOf effectOf Fit Leads AnswerOwed CountOwed FirstTryAgrees NoneStored systemOf loadsOwed accepted refusal
+        storeReply bufferAfterStore wordsAfterStore storedWords byRefusal rewritten bufferAfter emptiedAll readerOf
     store-taken = record {
       fit = tt;
       leads = record {
@@ -167,7 +168,7 @@ pub record SettingAccepted (r : Registers) (number value : ℕ) : Type 0 where
   pub value-fits : fitsAt number value ≡ true
 
 pub setting-accepted : (r : Registers) (number value : ℕ) → settingRefusal r number value ≡ 0 → SettingAccepted r number value
-unfolding settingRefusal
+unfolding settingRefusal argumentRefusal
 setting-accepted r number value h =
     let one = passed (registersFit r) 1 _ (λ e. omega arith) h in
     let five = passed (switchFits number value) 5 _ (λ e. omega arith) (one .1) in
@@ -185,13 +186,15 @@ guarded-put r (suc (suc zero)) value h = (refl, refl)
 guarded-put r (suc (suc (suc zero))) value h = (refl, refl)
 guarded-put r (suc (suc (suc (suc zero)))) value h = (refl, refl)
 guarded-put r (suc (suc (suc (suc (suc zero))))) value h = (refl, refl)
-guarded-put r (suc (suc (suc (suc (suc (suc n)))))) value h = absurd (let l = leb-true (suc (suc (suc (suc (suc (suc n)))))) 5 h in omega arith)
+guarded-put r (suc (suc (suc (suc (suc (suc n)))))) value h =
+    absurd (let l = leb-true (suc (suc (suc (suc (suc (suc n)))))) 5 h in omega arith)
 
 module _ (m : Machine) (slots : Slots) (s : Sound m) (number value : ℕ) (reply : Reply) (buffer : Buffer) (words : List ℕ)
     (ok : accepted (GuardedSetting (m .registers) number value) ≡ true) (g : GuardedSettingGives (m .registers) number value reply)
     (bq : buffer ≡ m .buffer) (wq : words ≡ m .words) where
   setting-taken : Taken m slots (GuardedSetting (m .registers) number value) reply buffer words
-  unfolding effectOf Fit Leads AnswerOwed CountOwed FirstTryAgrees NoneStored systemOf loadsOwed accepted refusal settingReply byRefusal
+  unfolding effectBy requestOf effectOf Fit Leads AnswerOwed CountOwed FirstTryAgrees NoneStored systemOf loadsOwed accepted refusal
+      settingReply byRefusal
   setting-taken = record {
     fit = a .switch-fits;
     leads = record {

@@ -29,7 +29,7 @@ use Rattle.store.specs.Machine.{Machine}
 use Rattle.control.specs.Starting.{startRefusal, startReply, startedBuffer, StartGives}
 use Rattle.sequence.specs.Reader.{Reader, startReader, settingsOf}
 use Rattle.sequence.specs.Account.{Slots, startSlots}
-use Rattle.sequence.specs.Calls.{Event, refusal, accepted, effectOf, leftBy, Promised}
+use Rattle.sequence.specs.Calls.{Event, refusal, accepted, effectBy, leftBy, Promised}
 use Rattle.sequence.specs.Systems.{System, begun, systemAfter, Moment, IfAccepted, IfRefused}
 use Rattle.sequence.specs.Sentences.{Answered, Counted, Loaded}
 use Rattle.sequence.specs.Sentences.{RefusalHasNoEffect, SlotIs, InService}
@@ -83,7 +83,8 @@ serves m s = record {
 holds : (s : System) (at : Moment) → Good s → Shown at → Holds s at
 unfolding readerOf
 holds s at g h = record {
-  at-most-one-hit = λ address id ctrl l. one-hit (s .machine .words) (s .machine .buffer) (g .sound .inv) (invExc ctrl) id (vpnOf address) l;
+  at-most-one-hit = λ address id ctrl l.
+      one-hit (s .machine .words) (s .machine .buffer) (g .sound .inv) (invExc ctrl) id (vpnOf address) l;
   same-words = ap (λ (d : Reader). d .words) (g .reader-is);
   same-settings = ap (λ (d : Reader). d .settings) (g .reader-is);
   same-answer = h .answer;
@@ -129,8 +130,8 @@ taken-of m slots e g h ok = record {
     t : Taken m slots (e .call) (e .reply) (e .buffer) (e .words)
     t = taken m slots (g .sound) (g .same-slots) (e .call) (e .reply) (e .buffer) (e .words) ok (h .same-machine ok) (h .promised)
 
-    f : Follows m slots (effectOf (e .call)) (leftBy e)
-    f = follows m slots (g .sound) (g .same-slots) (effectOf (e .call)) (leftBy e) (t .fit) (t .leads)
+    f : Follows m slots (effectBy (e .call)) (leftBy e)
+    f = follows m slots (g .sound) (g .same-slots) (effectBy (e .call)) (leftBy e) (t .fit) (t .leads)
 
 system-is : (s : System) → Good s → systemOf (s .machine) (s .slots) ≡ s
 unfolding systemOf

@@ -86,7 +86,8 @@ module _ (r : Registers) (b : Buffer) (a : Access) where
 
   value-not-miss : (f : Entry) → eqb (hitValue r a f) MISS ≡ false
   unfolding hitValue exceptionValue
-  value-not-miss f = sum-not-miss (writeError (r .ctrl) a (f .we)) (accessViolation (r .ctrl) a (f .kernel)) (invalidPage (r .ctrl) (f .valid))
+  value-not-miss f =
+      sum-not-miss (writeError (r .ctrl) a (f .we)) (accessViolation (r .ctrl) a (f .kernel)) (invalidPage (r .ctrl) (f .valid))
 
   none-missed : (address : ℕ) → missed (noException r address) ≡ false
   unfolding noException missed

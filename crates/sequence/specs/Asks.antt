@@ -10,7 +10,8 @@ use Rattle.control.specs.Setting.{settingReply}
 use Rattle.mmu.specs.ServedAccess.{servedReply, servedBuffer}
 use Rattle.sequence.specs.Calls.{Call, Event, accepted}
 use Rattle.sequence.specs.Calls.Call.{ServedAccess, TableStore, GuardedSetting}
-use Rattle.sequence.specs.Requests.{Request, callOn}
+use Rattle.sequence.specs.Requests.{Request}
+use Rattle.sequence.specs.Calls.{callOn}
 use Rattle.sequence.specs.Systems.{System, systemAfter}
 
 pub data Ask : Type 0 where
@@ -44,7 +45,9 @@ eventOf m (GuardedSetting given number value) = record {
 
 unfoldable pub eventsOf : System → List Ask → List Event
 eventsOf s [] = []
-eventsOf s (q ∷ qs) = eventOf (s .machine) (callOf (s .machine) q) ∷ eventsOf (systemAfter s (eventOf (s .machine) (callOf (s .machine) q))) qs
+eventsOf s (q ∷ qs) =
+    let e = eventOf (s .machine) (callOf (s .machine) q) in
+    e ∷ eventsOf (systemAfter s e) qs
 
 -- every stray call is refused
 unfoldable pub StraysRefused : List Ask → Type 0

@@ -2,7 +2,7 @@
 use Prim.Native.Nat.{ℕ}
 use mathlib.Core.Path.{_≡_}
 use mathlib.Core.Bool.{Bool}
-use mathlib.Core.List.{List, [], _∷_}
+use mathlib.Core.List.{List}
 use lib.Dec.{eqb}
 use Rattle.registers.specs.declared.Access.{Access}
 use Rattle.registers.specs.declared.Registers.{Registers}
@@ -14,7 +14,8 @@ use Rattle.store.specs.TableStore.{storeRefusal, TableStoreGives}
 use Rattle.control.specs.Setting.{settingRefusal, GuardedSettingGives}
 use Rattle.mmu.specs.ServedAccess.{servedRefusal, ServedAccessGives}
 use Rattle.sequence.specs.Effects.{Effect}
-use Rattle.sequence.specs.Effects.Effect.{Serve, Rewrite, Set}
+use Rattle.sequence.specs.Requests.{Request, effectOf}
+use Rattle.sequence.specs.Requests.Request.{ToAccess, ToStore, ToSet}
 
 pub data Call : Type 0 where
   ServedAccess : (given : Machine) (a : Access) → Call
@@ -30,11 +31,14 @@ refusal (GuardedSetting given number value) = settingRefusal given number value
 unfoldable pub accepted : Call → Bool
 accepted c = eqb (refusal c) 0
 
--- what an accepted call does, by its own arguments
-unfoldable pub effectOf : Call → Effect
-effectOf (ServedAccess given a) = Serve a
-effectOf (TableStore given p) = Rewrite ((p ∷ []) ∷ [])
-effectOf (GuardedSetting given number value) = Set number value
+-- its own arguments, and what it does by them where it is accepted
+unfoldable pub requestOf : Call → Request
+requestOf (ServedAccess given a) = ToAccess a
+requestOf (TableStore given p) = ToStore p
+requestOf (GuardedSetting given number value) = ToSet number value
+
+unfoldable pub effectBy : Call → Effect
+effectBy c = effectOf (requestOf c)
 
 -- what a call was handed; a run that it does not take is the machine's
 unfoldable pub handed : Machine → Call → Machine
@@ -63,3 +67,9 @@ Promise m (GuardedSetting given number value) reply buffer words =
 
 unfoldable pub Promised : Machine → Event → Type 0
 Promised m e = Promise m (e .call) (e .reply) (e .buffer) (e .words)
+
+-- a request that is handed a machine's registers and runs
+unfoldable pub callOn : Machine → Request → Call
+callOn m (ToAccess a) = ServedAccess m a
+callOn m (ToStore p) = TableStore m p
+callOn m (ToSet number value) = GuardedSetting (m .registers) number value

@@ -29,7 +29,7 @@ pub record Holds (s : System) (at : Moment) : Type 0 where
   pub right-loads : IfAccepted Loaded at
   -- "Each slot's 44 bits are those that document 01's loads and sweeps at these calls, begun with every slot empty, leave there."
   pub same-slots : (slot : ℕ) → slot < 64 → SlotIs (slotAt (s .machine .buffer) slot) (s .slots slot)
-  -- a store answered the number of slots that the account emptied
+  -- a store answered the number of slots that the account emptied, a guarded setting 0
   pub right-count : IfAccepted Counted at
   -- demand 1: a refused call answers its number, count 0 and the registers that it was handed, and alters no lent number
   pub refusal-has-no-effect : IfRefused RefusalHasNoEffect at

@@ -47,7 +47,7 @@ slotsDo d slots (Serve a) = cond (tryMisses (d .settings) slots a) (slotsLoaded 
 slotsDo d slots (Rewrite gs) = sweptAll gs (d .words) slots
 slotsDo d slots (Set number value) = slots
 
--- what an effect owes: an access the reader's answer, a rewrite the number of slots that the account emptied
+-- what an effect owes: an access the reader's answer; a rewrite the number of slots that the account emptied, a setting 0
 unfoldable pub AnswerOwed : Reader → Effect → Outcome → Type 0
 AnswerOwed d Keep outcome = Unit {0}
 AnswerOwed d (Serve a) outcome = outcome ≡ readerAnswer d a

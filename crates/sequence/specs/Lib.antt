@@ -1,8 +1,8 @@
 pub mod Reader
 pub mod Account
 pub mod Effects
-pub mod Calls
 pub mod Requests
+pub mod Calls
 pub mod Systems
 pub mod Sentences
 pub mod Demand3

@@ -13,15 +13,16 @@ use Rattle.mmu.specs.ServedAccess.{missed, firstTry}
 use Rattle.sequence.specs.Account.{tryMisses}
 use Rattle.sequence.specs.Effects.{Effect, AnswerOwed, CountOwed, loadsOwed}
 use Rattle.sequence.specs.Effects.Effect.{Keep, Serve, Rewrite, Set}
-use Rattle.sequence.specs.Calls.{Event, refusal, effectOf, handed, leftBy}
-use Rattle.sequence.specs.Requests.{Request, callOn, ownRefusal}
+use Rattle.sequence.specs.Calls.{Event, refusal, effectBy, handed, leftBy}
+use Rattle.sequence.specs.Requests.{Request, ownRefusal}
+use Rattle.sequence.specs.Calls.{callOn}
 use Rattle.sequence.specs.Systems.{System}
 
 unfoldable pub Answered : System → Event → Type 0
-Answered s e = AnswerOwed (s .reader) (effectOf (e .call)) (e .reply .outcome)
+Answered s e = AnswerOwed (s .reader) (effectBy (e .call)) (e .reply .outcome)
 
 unfoldable pub Counted : System → Event → Type 0
-Counted s e = CountOwed (s .reader) (s .slots) (effectOf (e .call)) (e .reply .outcome)
+Counted s e = CountOwed (s .reader) (s .slots) (effectBy (e .call)) (e .reply .outcome)
 
 -- the account tells a first try's miss as the unit's own first try does
 unfoldable pub FirstTryAgrees : System → Effect → Type 0
@@ -38,9 +39,9 @@ NoneStored s (Rewrite gs) after = Unit {0}
 NoneStored s (Set number value) after = Unit {0}
 
 pub record Loaded (s : System) (e : Event) : Type 0 where
-  pub first-try : FirstTryAgrees s (effectOf (e .call))
-  pub loads-are : e .reply .loads ≡ loadsOwed (s .reader) (s .slots) (effectOf (e .call))
-  pub else-none : NoneStored s (effectOf (e .call)) (e .buffer)
+  pub first-try : FirstTryAgrees s (effectBy (e .call))
+  pub loads-are : e .reply .loads ≡ loadsOwed (s .reader) (s .slots) (effectBy (e .call))
+  pub else-none : NoneStored s (effectBy (e .call)) (e .buffer)
 
 pub record RefusalHasNoEffect (s : System) (e : Event) : Type 0 where
   pub reply-is : e .reply ≡ refused ((handed (s .machine) (e .call)) .registers) (refusal (e .call))

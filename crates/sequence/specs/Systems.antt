@@ -9,7 +9,7 @@ use Rattle.store.specs.Machine.{Machine}
 use Rattle.sequence.specs.Reader.{Reader, startReader}
 use Rattle.sequence.specs.Account.{Slots, startSlots}
 use Rattle.sequence.specs.Effects.{readerDoes, slotsDo}
-use Rattle.sequence.specs.Calls.{Event, accepted, effectOf, leftBy}
+use Rattle.sequence.specs.Calls.{Event, accepted, effectBy, leftBy}
 
 -- the unit's registers and runs as the start or the last accepted call left them, the reader, and the account of the slots
 pub record System : Type 0 where
@@ -30,8 +30,8 @@ systemAfter s e =
     cond (accepted (e .call))
     (record {
       machine = leftBy e;
-      reader = readerDoes (s .reader) (effectOf (e .call));
-      slots = slotsDo (s .reader) (s .slots) (effectOf (e .call));
+      reader = readerDoes (s .reader) (effectBy (e .call));
+      slots = slotsDo (s .reader) (s .slots) (effectBy (e .call));
     })
     s
 

@@ -33,7 +33,9 @@ storedWords m p = written (p ∷ []) (m .words)
 -- "the number of emptied slots is the answer"; "registers stay"
 unfoldable pub storeReply : Machine → Put → Reply
 storeReply m p =
-    byRefusal (storeRefusal m (p .index)) (done (m .registers) (emptied (storedWords m p) (m .buffer))) (refused (m .registers) (storeRefusal m (p .index)))
+    byRefusal (storeRefusal m (p .index))
+    (done (m .registers) (emptied (storedWords m p) (m .buffer)))
+    (refused (m .registers) (storeRefusal m (p .index)))
 
 unfoldable pub bufferAfterStore : Machine → Put → Buffer
 bufferAfterStore m p = byRefusal (storeRefusal m (p .index)) (swept (storedWords m p) (m .buffer)) (m .buffer)

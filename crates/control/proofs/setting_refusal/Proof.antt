@@ -1,6 +1,6 @@
 use mathlib.Core.Path.{refl}
 use Rattle.registers.proofs.RefusalLaws.{refuse-here, refuse-later}
-use Rattle.control.specs.Setting.{settingRefusal}
+use Rattle.control.specs.Setting.{argumentRefusal, settingRefusal}
 use Rattle.control.proofs.CallLaws.{guarded-below}
 use borrow.Author.Needs.{needs}
 use Rattle.control.proofs.setting_refusal.Statement.{statement}
@@ -10,14 +10,14 @@ registers-fit-requires : tie.Need-registers-fit-requires
 registers-fit-requires c κs = search needs
 
 returns : tie.Need-returns
-unfolding settingRefusal
+unfolding settingRefusal argumentRefusal
 returns c = refuse-here _ _ _ _ (c .before .registers-fit .ensures) (c .if1 .taken)
 
 switch-fits-requires : tie.Need-switch-fits-requires
 switch-fits-requires c κs = search needs
 
 returns-2 : tie.Need-returns-2
-unfolding settingRefusal
+unfolding settingRefusal argumentRefusal
 returns-2 c = refuse-later _ _ _ _ (c .before .before .before .registers-fit .ensures) _ (c .before .before .if1 .left)
     (refuse-here _ _ _ _ (c .before .switch-fits .ensures) (c .if2 .taken))
 
@@ -25,7 +25,7 @@ is-guarded-requires : tie.Need-is-guarded-requires
 is-guarded-requires c κs = search needs
 
 returns-3 : tie.Need-returns-3
-unfolding settingRefusal
+unfolding settingRefusal argumentRefusal
 returns-3 c = refuse-later _ _ _ _ (c .before .before .before .before .before .registers-fit .ensures) _
     (c .before .before .before .before .if1 .left)
     (refuse-later _ _ _ _ (c .before .before .before .switch-fits .ensures) _ (c .before .before .if2 .left)
@@ -35,7 +35,7 @@ fits-at-requires : tie.Need-fits-at-requires
 fits-at-requires c κs = guarded-below _ _ (c .before .is-guarded .ensures) (c .if3 .left)
 
 returns-4 : tie.Need-returns-4
-unfolding settingRefusal
+unfolding settingRefusal argumentRefusal
 returns-4 c = refuse-later _ _ _ _ (c .before .before .before .before .before .before .before .registers-fit .ensures) _
     (c .before .before .before .before .before .before .if1 .left)
     (refuse-later _ _ _ _ (c .before .before .before .before .before .switch-fits .ensures) _ (c .before .before .before .before .if2 .left)
@@ -43,7 +43,7 @@ returns-4 c = refuse-later _ _ _ _ (c .before .before .before .before .before .b
     (refuse-here _ _ _ _ (c .before .fits-at .ensures) (c .if4 .taken))))
 
 returns-5 : tie.Need-returns-5
-unfolding settingRefusal
+unfolding settingRefusal argumentRefusal
 returns-5 c = refuse-later _ _ _ _ (c .before .before .before .before .before .before .before .registers-fit .ensures) _
     (c .before .before .before .before .before .before .if1 .left)
     (refuse-later _ _ _ _ (c .before .before .before .before .before .switch-fits .ensures) _ (c .before .before .before .before .if2 .left)

@@ -51,8 +51,22 @@ slice-aggregate-reply c = simp length-take (omega arith)
 
 reply-requires : tie.Need-reply-requires
 reply-requires c κs = (
-  omega (arith, c .before .before .before .before .before .before .before .before .before .before .before .before .before .before .before .before .before .before .before .before .before .before .before .before .before .before .pre .0, c .before .before .before .before .before .before .before .before .before .before .before .before .before .before .before .before .bytes .given, c .before .before .before .before .before .before .before .before .before .before .before .before .before .before .buffer .given),
-  omega (arith, c .before .before .before .before .before .before .before .before .before .before .before .before .before .before .before .before .before .before .before .before .before .before .before .before .before .before .pre .1, c .before .before .before .before .before .before .before .before .table-bytes .given),
+  omega (
+    arith,
+    c .before .before .before .before .before .before .before .before .before .before .before .before .before .before
+        .before .before .before .before .before .before .before .before .before .before .before .before .pre .0,
+    c .before .before .before
+        .before .before .before .before .before .before .before .before .before .before .before .before .before .bytes .given,
+    c .before
+        .before .before .before .before .before .before .before .before .before .before .before .before .before .buffer .given,
+  ),
+  omega (
+    arith,
+    c .before .before .before .before .before .before .before .before .before .before .before .before .before .before
+        .before .before .before .before .before .before .before .before .before .before .before .before .pre .1,
+    c .before .before .before
+        .before .before .before .before .before .table-bytes .given,
+  ),
   simp length-take (omega arith),
 )
 
