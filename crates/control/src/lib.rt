@@ -10,6 +10,10 @@ ghost use Rattle.control.specs.Setting.{GuardedSettingGives, isGuarded, 
 use registers::Registers;
 use registers::Reply;
 
+// Register numbers.
+const CONTEXT: u32 = 5;
+const TLB_LO: u32 = 8;
+
 // Makes every slot empty and all registers 0. A refused start returns registers that are all 0 and alters nothing.
 pub fn start(buffer: &mut [u64]) -> Reply
     ensures { λ s. ⌜ StartGives (Buffer.Wide (now (buffer .entry))) (Buffer.Wide (now (buffer .exit))) s ⌝ }
@@ -52,7 +56,7 @@ fn write_buffer(r: Registers, buffer: &mut [u64], number: u32, value: u32)
     requires { ⌜ (registersFit r ≡ true) × (bufferFits (Buffer.Wide (now buffer)) ≡ true) × (fitsAt number value ≡ true) ⌝ }
     ensures { λ _. ⌜ Buffer.Wide (now (buffer .exit)) ≡ writtenBuffer r (Buffer.Wide (now (buffer .entry))) number value ⌝ }
 {
-    if number == 8 {
+    if number == TLB_LO {
         let hi = r.tlb_hi;
         let e = entry::join((hi >> 10) % 32768, hi % 64, value);
         slots::put_slot(buffer, r.select, e);
@@ -100,14 +104,14 @@ pub fn read_register(r: Registers, number: u32) -> Reply
 fn is_guarded(number: u32) -> bool
     ensures { λ b. ⌜ b ≡ isGuarded number ⌝ }
 {
-    number <= 5
+    number <= CONTEXT
 }
 
 // A setting of CONTEXT is a switch, to an identification of 62 at most.
 fn switch_fits(number: u32, value: u32) -> bool
     ensures { λ b. ⌜ b ≡ switchFits number value ⌝ }
 {
-    (number != 5) | (value <= 62)
+    (number != CONTEXT) | (value <= 62)
 }
 
 fn setting_refusal(r: Registers, number: u32, value: u32) -> u32

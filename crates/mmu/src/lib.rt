@@ -15,6 +15,12 @@ use registers::Outcome;
 use registers::Registers;
 use registers::Reply;
 
+// The number of the register SELECT.
+const SELECT: u32 = 6;
+
+// The exception value of a miss.
+const MISS: u32 = 8;
+
 // What a raw access replies: its answers and registers, or the refusal's number and the registers received.
 pub enum RawReply {
     Answered(Translation),
@@ -122,12 +128,12 @@ fn after_miss(found: Walk, r: Registers, buffer: &mut [u64], a: Access) -> Reply
     let vpn = entry::vpn_of(a.address);
     let e = store::leaf_entry(r.context, vpn, leaf);
     let slot = tlb::load(buffer, r.context, vpn, a.draw, e);
-    let selected = registers::put(r, 6, slot);
+    let selected = registers::put(r, SELECT, slot);
     let second = access::translate(selected, buffer, a);
     tried_reply(second, 1)
 }
 
-// Tries; a miss, whose value is 8, is followed by a walk.
+// Tries; a miss is followed by a walk.
 fn serve(r: Registers, buffer: &mut [u64], words: &[u32], a: Access) -> Reply
     requires { ⌜ Accepted r (Buffer.Wide (now buffer)) a × (64 ≤ length (now words)) ⌝ }
     ensures { λ s. ⌜ AccessGives
@@ -135,7 +141,7 @@ fn serve(r: Registers, buffer: &mut [u64], words: &[u32], a: Access) -> Reply
         (Buffer.Wide (now (buffer .exit))) ⌝ }
 {
     let first = access::translate(r, buffer, a);
-    if first.value != 8 {
+    if first.value != MISS {
         return tried_reply(first, 0);
     }
     let vpn = entry::vpn_of(a.address);
