@@ -218,8 +218,11 @@ impl Sequence {
                 }
             }
             (said, GuardedCall::Access(access)) => {
-                let loaded = Rc::make_mut(&mut self.account).access(&self.reader, access);
-                Told::Access { said, loaded }
+                let slot = Rc::make_mut(&mut self.account).access(&self.reader, access);
+                Told::Access {
+                    said,
+                    loaded: slot.is_some(),
+                }
             }
             (_, GuardedCall::Store { .. }) => Told::Store {
                 emptied: Rc::make_mut(&mut self.account).store(&self.reader),

@@ -1,6 +1,7 @@
 //! What served accesses on arbitrary states do and no sequence from the start leads to.
 
 use super::Served;
+use crate::expected::AT;
 use reference::*;
 
 const OVER_HIGH_BITS: &str = "served access, load over a number with high bits";
@@ -12,6 +13,7 @@ pub fn all() -> Vec<String> {
     all.extend((2..=SETS).map(several_hits));
     all.extend((2..=SETS).map(lowest_of));
     all.extend([OVER_HIGH_BITS, HIT_ON_HIGH_BITS, STALE].map(String::from));
+    all.push(to_another_set(true));
     all
 }
 
@@ -29,8 +31,14 @@ pub fn of(served: &Served) -> Vec<String> {
         if matching >= 2 {
             outcomes.push(lowest_of(matching));
         }
-        if buffer[served.slot_to_load()] >> 44 != 0 {
+        let slot = served.slot_to_load();
+        if buffer[slot] >> 44 != 0 {
             outcomes.push(OVER_HIGH_BITS.to_string());
+        }
+        let is_draws = slot / LOCATIONS == served.access.draw as usize;
+        if !is_draws && served.expected.words[0] == AT {
+            let select = Registers::from_words(served.expected.registers).select;
+            outcomes.push(to_another_set(select == slot as u32));
         }
     }
     match served.first_try() {
@@ -56,4 +64,14 @@ fn several_hits(hits: usize) -> String {
 
 fn lowest_of(matching: usize) -> String {
     format!("served access, load to the lowest of {matching} matching slots")
+}
+
+/// Where the loaded slot is not selected, the outcome is none of those that have to happen.
+fn to_another_set(selected: bool) -> String {
+    let select = match selected {
+        true => "the loaded slot",
+        false => "another slot",
+    };
+    let load = "load to another set than the draw's, good second try";
+    format!("served access, {load}: SELECT is {select}")
 }
