@@ -2,6 +2,7 @@
 
 mod outside;
 mod path;
+mod smallest_run;
 
 use super::refused;
 use crate::protocol::{Answer, Request};
@@ -91,6 +92,7 @@ pub fn all() -> Vec<String> {
     all.extend(refused::all_draws(CALL));
     all.extend([TEST_MODE, CONTEXT_63, BOTH].map(String::from));
     all.extend(outside::all());
+    all.extend(smallest_run::all(CALL));
     all
 }
 
@@ -102,7 +104,10 @@ pub fn of(served: &Served) -> Vec<String> {
     outcomes.extend(refused::of_length(CALL, served.buffer, &grounds));
     outcomes.extend(refused::of_run(CALL, served.words.len(), &grounds));
     match grounds[..] {
-        [] => outcomes.extend(outside::of(served)),
+        [] => {
+            outcomes.extend(outside::of(served));
+            outcomes.extend(smallest_run::of(CALL, served));
+        }
         [4] => outcomes.push(refused::draw_of(CALL, served.access.draw)),
         [5] => outcomes.push(
             match (registers.test, registers.context) {

@@ -25,15 +25,8 @@ pub fn all(call: &str) -> Vec<String> {
     for value in 1..=8 {
         add(&miss_and_load(value));
     }
-    for global in LEVELS {
-        for own in LEVELS {
-            add(&absent(own, global));
-        }
-    }
-    for level in [Level::Root, Level::Directory] {
-        for tree in [Tree::Global, Tree::Own] {
-            add(&broken(level, tree));
-        }
+    for path in endings_without_leaf(&LEVELS) {
+        add(&path);
     }
     for draw in 0..4 {
         add(&to_the_draws_slot(draw));
@@ -66,6 +59,18 @@ pub fn all(call: &str) -> Vec<String> {
     all
 }
 
+/// The faults 16 and 32, the former for walks that are absent at one of the levels.
+pub fn endings_without_leaf(levels: &[Level]) -> Vec<String> {
+    let mut endings = Vec::new();
+    for &global in levels {
+        endings.extend(levels.iter().map(|&own| absent(own, global)));
+    }
+    for level in [Level::Root, Level::Directory] {
+        endings.extend([Tree::Global, Tree::Own].map(|tree| broken(level, tree)));
+    }
+    endings
+}
+
 /// The way that an accepted access took.
 pub fn of(call: &str, served: &Served) -> Vec<String> {
     let Served {
@@ -96,7 +101,8 @@ pub fn of(call: &str, served: &Served) -> Vec<String> {
         .collect()
 }
 
-fn of_miss(served: &Served) -> Vec<String> {
+/// The way after a miss of the first try.
+pub fn of_miss(served: &Served) -> Vec<String> {
     match (served.walk_tree(Tree::Global), served.walk_tree(Tree::Own)) {
         (Walk::Broken(word, _), own) => {
             let mut paths = vec![broken(word.level, Tree::Global)];
