@@ -7,12 +7,7 @@ use crate::random::Random;
 use reference::{Registers, FIELD_BITS};
 
 fn request(registers: Registers, buffer: Vec<u64>, number: u32, value: u32) -> Request {
-    Request {
-        call: Call::Setting { number, value },
-        registers: registers.to_words(),
-        buffer,
-        tables: Vec::new(),
-    }
+    Request::without_run(Call::Setting { number, value }, registers, buffer)
 }
 
 pub fn edges(comparison: &mut Comparison, random: &mut Random) {

@@ -11,12 +11,7 @@ use crate::random::Random;
 use reference::*;
 
 fn request(registers: Registers, buffer: Vec<u64>, (index, value): (u32, u32)) -> Request {
-    Request {
-        call: Call::Store { index, value },
-        registers: registers.to_words(),
-        buffer,
-        tables: Vec::new(),
-    }
+    Request::without_run(Call::Store { index, value }, registers, buffer)
 }
 
 pub fn random(random: &mut Random, scene: &mut Scene, comparison: &Comparison) -> Request {
