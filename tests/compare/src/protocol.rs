@@ -1,6 +1,6 @@
 //! The bytes of a request and of its answer.
 
-use reference::{Access, FIELDS};
+use reference::{Access, Registers, FIELDS};
 
 #[derive(Clone, Copy, Debug)]
 pub enum Call {
@@ -62,6 +62,16 @@ pub struct Request {
 }
 
 impl Request {
+    /// A request that hands over no table run.
+    pub fn without_run(call: Call, registers: Registers, buffer: Vec<u64>) -> Request {
+        Request {
+            call,
+            registers: registers.to_words(),
+            buffer,
+            tables: Vec::new(),
+        }
+    }
+
     pub fn to_bytes(&self) -> Vec<u8> {
         let mut bytes = Vec::new();
         let lengths = [self.buffer.len() as u32, self.tables.len() as u32, 0];

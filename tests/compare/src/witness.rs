@@ -9,7 +9,6 @@ const REFUSED_AS_READ: &str = "sequence: refused with the reader's number, loads
 const READ: &str = "sequence: the access's answer is the reader's";
 const LOADS: &str =
     "sequence: one load exactly when the first try misses and the reader finds a leaf";
-const SELECTED: &str = "sequence: a load and a good second try leave the account's slot selected";
 const EMPTIED: &str = "sequence: the store's count is the account's";
 const SET: &str = "sequence: the setting is done";
 const SLOTS_AGREE: &str = "sequence: the 44 bits of the 64 slots are the account's";
@@ -24,7 +23,6 @@ pub fn all() -> Vec<String> {
         REFUSED_AS_READ,
         READ,
         LOADS,
-        SELECTED,
         EMPTIED,
         SET,
         SLOTS_AGREE,
@@ -40,7 +38,7 @@ pub fn all() -> Vec<String> {
 /// What the call itself has to answer.
 pub enum Told {
     Refused(u32),
-    Access { said: Said, loaded: Option<usize> },
+    Access { said: Said, loaded: bool },
     Store { emptied: u32 },
     Setting,
     Words(Vec<u32>),
@@ -89,14 +87,10 @@ impl Told {
                     Said::Fault(value) => (FAULT, *value),
                     Said::Refused(_) | Said::Written => panic!("the reader answers an access"),
                 };
-                let mut points = vec![
+                vec![
                     (READ, (word, value) == read),
-                    (LOADS, loads == u32::from(loaded.is_some())),
-                ];
-                if let (Some(slot), Said::At(_)) = (loaded, said) {
-                    points.push((SELECTED, got.registers[6] == *slot as u32));
-                }
-                points
+                    (LOADS, loads == u32::from(*loaded)),
+                ]
             }
             Told::Store { emptied } => vec![(EMPTIED, got.words == [DONE, *emptied, 0, 0])],
             Told::Setting => vec![(SET, got.words == [DONE, 0, 0, 0])],

@@ -1,8 +1,11 @@
 //! An account of the 64 slots, kept from what the reader sees.
 //!
 //! "Each slot's 44 bits are those that document 01's loads and sweeps at these calls, begun with
-//! every slot empty, leave there." The account holds fields and knows no 64-bit number; nothing
-//! here is shared with the load or the sweep of the buffer.
+//! every slot empty, leave there." The account holds fields and knows no 64-bit number. Shared with
+//! the load and the sweep of the buffer are the walk, the fields of a leaf and of an entry, the empty
+//! entry, and how an address gives vpn, vpn15, location and slot. Which entry stands for a page,
+//! which set is loaded, what is stored there and what a store keeps are said here once more, by
+//! themselves.
 
 use crate::address::{location, slot, vpn, vpn15, LOCATIONS, SETS};
 use crate::entry::Entry;

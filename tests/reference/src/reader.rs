@@ -1,7 +1,10 @@
 //! The reader, who sees the calls and has no buffer.
 //!
 //! It "is fed each call's arguments, never an answer; registers and runs handed in serve it only
-//! to decide a refusal". Nothing here is shared with the served access or the store.
+//! to decide a refusal". Shared with the served access, the store and the guarded setting are the
+//! walk, the fields of a leaf, the register fields with their widths and the arguments of an access.
+//! The refusals, the linear rule, the exceptions, the address and the writes are said here once
+//! more, by themselves.
 
 use crate::leaf::Leaf;
 use crate::raw::Access;

@@ -6,12 +6,7 @@ use crate::random::Random;
 use reference::*;
 
 pub fn request(registers: Registers, buffer: Vec<u64>, access: Access) -> Request {
-    Request {
-        call: Call::Raw(access),
-        registers: registers.to_words(),
-        buffer,
-        tables: Vec::new(),
-    }
+    Request::without_run(Call::Raw(access), registers, buffer)
 }
 
 /// Random registers, with the page's four slots made so that hits and near misses abound.

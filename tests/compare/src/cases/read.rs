@@ -7,12 +7,7 @@ use crate::random::Random;
 use reference::Registers;
 
 fn request(registers: Registers, buffer: Vec<u64>, number: u32) -> Request {
-    Request {
-        call: Call::Read { number },
-        registers: registers.to_words(),
-        buffer,
-        tables: Vec::new(),
-    }
+    Request::without_run(Call::Read { number }, registers, buffer)
 }
 
 /// Every register edge with every number; the buffer's length must not matter.

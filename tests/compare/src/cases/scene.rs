@@ -29,7 +29,7 @@ impl Scene {
             return spoil::wrong_run(random);
         }
         self.left = CALLS_FOR_A_RUN;
-        let length = 1024 * random.pick(&[1, 2, 3, 4, 4, 6, 8, 16]);
+        let length = 1024 * random.pick(&[1, 1, 2, 3, 4, 4, 6, 8, 16]);
         run(random, length, &self.planted)
     }
 

@@ -40,12 +40,11 @@ impl Sequence {
     fn begin(comparison: &mut Comparison, random: &mut Random) -> Sequence {
         let started = comparison.put_before(
             None,
-            Request {
-                call: Call::Start,
-                registers: state::registers(random).to_words(),
-                buffer: state::buffer(random, SLOTS),
-                tables: Vec::new(),
-            },
+            Request::without_run(
+                Call::Start,
+                state::registers(random),
+                state::buffer(random, SLOTS),
+            ),
         );
         let (world, words) = World::new(random);
         Sequence {
@@ -218,8 +217,11 @@ impl Sequence {
                 }
             }
             (said, GuardedCall::Access(access)) => {
-                let loaded = Rc::make_mut(&mut self.account).access(&self.reader, access);
-                Told::Access { said, loaded }
+                let slot = Rc::make_mut(&mut self.account).access(&self.reader, access);
+                Told::Access {
+                    said,
+                    loaded: slot.is_some(),
+                }
             }
             (_, GuardedCall::Store { .. }) => Told::Store {
                 emptied: Rc::make_mut(&mut self.account).store(&self.reader),

@@ -108,30 +108,43 @@ fn grounds_together(comparison: &mut Comparison, random: &mut Random) {
     }
 }
 
-/// Each ending of the global tree with each of the own tree, on buffers with and without the page.
+/// Each ending of the global tree with each of the own tree, in the smallest run and in a larger
+/// one, on buffers with and without the page.
 fn walks(comparison: &mut Comparison, random: &mut Random) {
     for global in endings() {
         for own in endings() {
-            let context = random.pick(&[0, 62, 5, 31]);
-            let page = random.bits(19);
-            let length = random.pick(&[3072, 4096, 8192, 16384]);
-            let mut forest = Forest::new(random, length);
-            forest.plant(random, GLOBAL_ROOT, page, global);
-            forest.plant(random, context as usize, page, own);
-            let mut tables = forest.words;
-            for n in 0..8 {
-                let registers = enabled(random, context);
-                let mut buffer = state::empty_slots();
-                if n % 2 == 1 {
-                    put_not_valid(random, &mut buffer, registers, page);
-                }
-                let access = access(random, page, n % 4);
-                let tables = std::mem::take(&mut tables);
-                comparison.put(request(registers, buffer, access, tables));
+            for length in [1024, random.pick(&[3072, 4096, 8192, 16384])] {
+                walks_ending(comparison, random, length, (global, own));
             }
-            ask_for_tables(comparison);
         }
     }
+}
+
+fn walks_ending(
+    comparison: &mut Comparison,
+    random: &mut Random,
+    length: usize,
+    (global, own): (Ending, Ending),
+) {
+    let context = random.pick(&[0, 62, 5, 31]);
+    let page = random.bits(19);
+    let mut forest = Forest::new(random, length);
+    forest.plant(random, GLOBAL_ROOT, page, global);
+    forest.plant(random, context as usize, page, own);
+    let mut tables = forest.words;
+    for n in 0..8 {
+        let registers = enabled(random, context);
+        let mut buffer = state::empty_slots();
+        match n {
+            1 | 3 | 5 => put_not_valid(random, &mut buffer, registers, page),
+            7 => raw::furnish(random, &mut buffer, registers, page),
+            _ => {}
+        }
+        let access = access(random, page, n % 4);
+        let tables = std::mem::take(&mut tables);
+        comparison.put(request(registers, buffer, access, tables));
+    }
+    ask_for_tables(comparison);
 }
 
 /// Every setting of a leaf's three bits in either tree, with every CTRL and every mode.

@@ -7,12 +7,7 @@ use crate::random::Random;
 use reference::{Registers, FIELD_BITS};
 
 fn request(registers: Registers, buffer: Vec<u64>, number: u32, value: u32) -> Request {
-    Request {
-        call: Call::Setting { number, value },
-        registers: registers.to_words(),
-        buffer,
-        tables: Vec::new(),
-    }
+    Request::without_run(Call::Setting { number, value }, registers, buffer)
 }
 
 pub fn edges(comparison: &mut Comparison, random: &mut Random) {
@@ -35,18 +30,11 @@ fn refusals(comparison: &mut Comparison, random: &mut Random) {
 
 /// Every number with values around its width, and around 62 and 63.
 fn values(comparison: &mut Comparison, random: &mut Random) {
-    for (number, bits) in (0..10).zip(FIELD_BITS) {
-        let largest = state::largest(bits);
-        let past = largest.wrapping_add(1);
-        let edges = [0, 1, largest / 2, largest - 1, largest, past];
-        let near_63 = [61, 62, 63, 64, 65, 126, 127, u32::MAX - 1, u32::MAX];
-        let bit_by_bit = (0..32).map(|bit| 1 << bit);
-        for value in edges.into_iter().chain(near_63).chain(bit_by_bit) {
-            let registers = state::registers(random);
-            let length = random.pick(&[0, 64]);
-            let buffer = state::buffer(random, length);
-            comparison.put(request(registers, buffer, number, value));
-        }
+    for (number, value) in state::register_values() {
+        let registers = state::registers(random);
+        let length = random.pick(&[0, 64]);
+        let buffer = state::buffer(random, length);
+        comparison.put(request(registers, buffer, number, value));
     }
 }
 

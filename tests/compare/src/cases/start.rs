@@ -7,12 +7,7 @@ use crate::random::Random;
 use reference::Registers;
 
 fn request(registers: Registers, buffer: Vec<u64>) -> Request {
-    Request {
-        call: Call::Start,
-        registers: registers.to_words(),
-        buffer,
-        tables: Vec::new(),
-    }
+    Request::without_run(Call::Start, registers, buffer)
 }
 
 /// Every length with good registers and with spoilt ones, which a start never looks at.

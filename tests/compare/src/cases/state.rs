@@ -78,6 +78,22 @@ pub fn register_edges(random: &mut Random) -> Vec<Registers> {
     edges
 }
 
+/// Every register number with values around its width and around 63, and with each single bit.
+pub fn register_values() -> Vec<(u32, u32)> {
+    let mut all = Vec::new();
+    for (number, bits) in (0..10).zip(FIELD_BITS) {
+        let largest = largest(bits);
+        let past = largest.wrapping_add(1);
+        let edges = [0, 1, largest / 2, largest - 1, largest, past];
+        let far = [past.wrapping_add(1), past.wrapping_mul(2)];
+        let near_63 = [61, 62, 63, 64, 65, 126, 127, u32::MAX - 1, u32::MAX];
+        let bit_by_bit = (0..32).map(|bit| 1 << bit);
+        let values = edges.into_iter().chain(far).chain(near_63);
+        all.extend(values.chain(bit_by_bit).map(|value| (number, value)));
+    }
+    all
+}
+
 /// A buffer of any length: empty slots, plausible entries or plain random numbers.
 pub fn buffer(random: &mut Random, length: usize) -> Vec<u64> {
     match random.below(4) {

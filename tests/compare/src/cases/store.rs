@@ -1,5 +1,6 @@
 //! Table stores on arbitrary states.
 
+use super::forest::{endings, Forest};
 use super::scene::{entry_of, words_found, Scene};
 use super::tables::ask_for_tables;
 use super::words::{self, Numbers, Place};
@@ -10,12 +11,7 @@ use crate::random::Random;
 use reference::*;
 
 fn request(registers: Registers, buffer: Vec<u64>, (index, value): (u32, u32)) -> Request {
-    Request {
-        call: Call::Store { index, value },
-        registers: registers.to_words(),
-        buffer,
-        tables: Vec::new(),
-    }
+    Request::without_run(Call::Store { index, value }, registers, buffer)
 }
 
 pub fn random(random: &mut Random, scene: &mut Scene, comparison: &Comparison) -> Request {
@@ -69,6 +65,7 @@ pub fn edges(comparison: &mut Comparison, random: &mut Random) {
     single_bits(comparison, random);
     empty_numbers(comparison, random);
     full_buffers(comparison, random);
+    smallest_run(comparison, random);
 }
 
 /// A run of 4,096 words in which identification 5 has a leaf for every page below 1,024, and the
@@ -197,6 +194,31 @@ fn full_buffers(comparison: &mut Comparison, random: &mut Random) {
                     ..request(state::registers(random), buffer.clone(), (index, value))
                 });
             }
+        }
+        ask_for_tables(comparison);
+    }
+}
+
+/// Each ending of either tree in the smallest run, with stores at its end, past it and to the words
+/// that the page's walk asks.
+fn smallest_run(comparison: &mut Comparison, random: &mut Random) {
+    for (global, own) in endings()
+        .into_iter()
+        .flat_map(|global| endings().into_iter().map(move |own| (global, own)))
+    {
+        let page = random.bits(19);
+        let mut forest = Forest::new(random, 1024);
+        forest.plant(random, GLOBAL_ROOT, page, global);
+        forest.plant(random, 5, page, own);
+        let mut tables = forest.words;
+        for index in [1023, 1024, 512 + page / 1024, 5, 63] {
+            let leaf = leaf_of(Entry::unpack(random.bits64()));
+            let mut buffer = state::empty_slots();
+            buffer[slot(random.below(SETS), location(page))] = entry_of(5, page, leaf).pack();
+            comparison.put(Request {
+                tables: std::mem::take(&mut tables),
+                ..request(state::registers(random), buffer, (index, random.bits(32)))
+            });
         }
         ask_for_tables(comparison);
     }

@@ -5,10 +5,6 @@ use crate::protocol::{Call, Request};
 use reference::Registers;
 
 pub fn ask_for_tables(comparison: &mut Comparison) {
-    comparison.put(Request {
-        call: Call::Tables,
-        registers: Registers::default().to_words(),
-        buffer: Vec::new(),
-        tables: Vec::new(),
-    });
+    let registers = Registers::default();
+    comparison.put(Request::without_run(Call::Tables, registers, Vec::new()));
 }

@@ -7,12 +7,7 @@ use crate::random::Random;
 use reference::{Registers, FIELD_BITS, SLOTS};
 
 fn request(registers: Registers, buffer: Vec<u64>, number: u32, value: u32) -> Request {
-    Request {
-        call: Call::Write { number, value },
-        registers: registers.to_words(),
-        buffer,
-        tables: Vec::new(),
-    }
+    Request::without_run(Call::Write { number, value }, registers, buffer)
 }
 
 pub fn edges(comparison: &mut Comparison, random: &mut Random) {
@@ -36,17 +31,10 @@ fn refusals(comparison: &mut Comparison, random: &mut Random) {
 
 /// Every number with values around its width.
 fn values(comparison: &mut Comparison, random: &mut Random) {
-    for (number, bits) in (0..10).zip(FIELD_BITS) {
-        let largest = state::largest(bits);
-        let past = largest.wrapping_add(1);
-        let edges = [0, 1, largest / 2, largest - 1, largest, past];
-        let far = [past.wrapping_add(1), past.wrapping_mul(2), u32::MAX];
-        let bit_by_bit = (0..32).map(|bit| 1 << bit);
-        for value in edges.into_iter().chain(far).chain(bit_by_bit) {
-            let registers = state::registers(random);
-            let buffer = state::buffer(random, SLOTS);
-            comparison.put(request(registers, buffer, number, value));
-        }
+    for (number, value) in state::register_values() {
+        let registers = state::registers(random);
+        let buffer = state::buffer(random, SLOTS);
+        comparison.put(request(registers, buffer, number, value));
     }
 }
 

@@ -15,6 +15,7 @@ mod write;
 use crate::protocol::{Answer, Call, Request};
 use crate::witness;
 use reference::Registers;
+use served::Served;
 
 /// The table run as a call finds it and as it leaves it.
 #[derive(Clone, Copy)]
@@ -52,7 +53,7 @@ pub fn of(request: &Request, runs: Runs, expected: &Answer) -> Vec<String> {
         }
         Call::Read { number } => read::of(registers, buffer, number, refused_with),
         Call::Walk { page_id, vpn } => walk::of(runs.before, page_id, vpn),
-        Call::Served(access) => served::of(registers, buffer, runs.before, access, expected),
+        Call::Served(access) => served::of(&Served::new(request, runs.before, access, expected)),
         Call::Store { index, value } => {
             store::of(registers, buffer, runs, (index, value), expected)
         }
@@ -69,7 +70,7 @@ pub fn in_sequence(request: &Request, runs: Runs, expected: &Answer) -> Vec<Stri
     let buffer = &request.buffer;
     match request.call {
         Call::Served(access) => {
-            served::in_sequence(registers, buffer, runs.before, access, expected)
+            served::in_sequence(&Served::new(request, runs.before, access, expected))
         }
         Call::Store { index, value } => {
             store::in_sequence(registers, buffer, runs, (index, value), expected)

@@ -106,6 +106,14 @@ pub fn wrong_run(call: &str, words: usize) -> String {
     format!("{call} refused 3, run {kind}")
 }
 
+/// The smallest table run that is accepted. It has room for a directory and for no table, so that
+/// no walk in it finds a leaf.
+pub const SMALLEST_RUN: usize = 1024;
+
+pub fn smallest_run(call: &str) -> String {
+    format!("{call} accepted, table run of {SMALLEST_RUN} words")
+}
+
 /// Outcomes of a draw above 3.
 pub fn all_draws(call: &str) -> Vec<String> {
     [4, 5, u32::MAX].map(|draw| draw_of(call, draw)).to_vec()

@@ -1,5 +1,6 @@
 //! Outcomes of a table store.
 
+use super::refused::{smallest_run, SMALLEST_RUN};
 use super::sweep::{self, Judged};
 use super::{refused, Runs};
 use crate::protocol::Answer;
@@ -60,6 +61,9 @@ pub fn all() -> Vec<String> {
         LAST_WORD,
     ];
     all.extend(single.map(String::from));
+    all.extend([smallest_run(CALL), last_of_smallest(), past_smallest()]);
+    let in_smallest = sweep::all_without_table().into_iter();
+    all.extend(in_smallest.map(judged_in_smallest));
     all.push(to_and_empties(CALL, Target::Unused));
     all
 }
@@ -99,6 +103,11 @@ pub fn of(
     if grounds.is_empty() {
         outcomes.extend(of_accepted(CALL, buffer, runs, index, expected));
         let all = all_judged(registers, buffer, runs.after);
+        if length == SMALLEST_RUN {
+            outcomes.push(smallest_run(CALL));
+            let by_walk = all.iter().filter(|why| why.is_by_walk());
+            outcomes.extend(by_walk.map(|&why| judged_in_smallest(why)));
+        }
         outcomes.extend(all.into_iter().map(|why| judged(CALL, why)));
     } else {
         outcomes.push(refused::set_of_grounds(CALL, &grounds, emptied));
@@ -112,6 +121,9 @@ pub fn of(
     note(&[], registers.context == 63, UNDER_63);
     note(&[], emptied == SLOTS as u32, ALL_64);
     note(&[], index as usize + 1 == length, LAST_WORD);
+    let of_smallest = |place: usize| length == SMALLEST_RUN && index as usize == place;
+    note(&[], of_smallest(SMALLEST_RUN - 1), &last_of_smallest());
+    note(&[6], of_smallest(SMALLEST_RUN), &past_smallest());
     note(&[3, 6], length == 0, NO_WORDS);
     note(&[6], index as usize == length, FIRST_PAST);
     note(&[6], index == u32::MAX, LARGEST_INDEX);
@@ -260,4 +272,17 @@ fn several_ids(call: &str) -> String {
 
 fn judged(call: &str, why: Judged) -> String {
     format!("{call}, {}", why.name())
+}
+
+/// That a leaf is found is none of the outcomes that have to happen here.
+fn judged_in_smallest(why: Judged) -> String {
+    format!("{}, {}", smallest_run(CALL), why.name())
+}
+
+fn last_of_smallest() -> String {
+    format!("{}, index {}", smallest_run(CALL), SMALLEST_RUN - 1)
+}
+
+fn past_smallest() -> String {
+    format!("{CALL} refused 6, table run of {SMALLEST_RUN} words, index {SMALLEST_RUN}")
 }

@@ -34,9 +34,17 @@ pub fn all_in_sequence() -> Vec<Judged> {
     all.extend([Tree::Global, Tree::Own].map(Judged::AgreesKept));
     all.extend(FIELDS.map(Judged::Differs));
     all.push(Judged::Differs(SEVERAL));
-    all.extend([Level::Root, Level::Directory, Level::Leaf].map(Judged::Absent));
+    all.push(Judged::Absent(Level::Leaf));
+    all.extend(all_without_table());
+    all
+}
+
+/// What becomes of slots whose walk ends before it reaches a table.
+pub fn all_without_table() -> Vec<Judged> {
+    let levels = [Level::Root, Level::Directory];
+    let mut all = levels.map(Judged::Absent).to_vec();
     for tree in [Tree::Global, Tree::Own] {
-        all.extend([Level::Root, Level::Directory].map(|level| Judged::Broken(tree, level)));
+        all.extend(levels.map(|level| Judged::Broken(tree, level)));
     }
     all
 }
@@ -111,6 +119,14 @@ fn differing(held: Leaf, found: Leaf) -> Vec<&'static str> {
 }
 
 impl Judged {
+    /// Whether the slot's walk decided.
+    pub fn is_by_walk(self) -> bool {
+        matches!(
+            self,
+            Judged::AgreesKept(_) | Judged::Differs(_) | Judged::Absent(_) | Judged::Broken(..)
+        )
+    }
+
     pub fn name(self) -> String {
         let of = |tree| match tree {
             Tree::Global => "global",
