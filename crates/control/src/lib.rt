@@ -12,6 +12,7 @@ use registers::Reply;
 
 // Register numbers.
 const CONTEXT: u32 = 5;
+
 const TLB_LO: u32 = 8;
 
 // Makes every slot empty and all registers 0. A refused start returns registers that are all 0 and alters nothing.

@@ -36,15 +36,15 @@ use Rattle.sequence.specs.Calls.{callOn}
 use Rattle.sequence.specs.Systems.{begun, systemAfter}
 use Rattle.sequence.specs.Asks.{callOf, eventOf, eventsOf, linesOf}
 use Rattle.examples.specs.Claims.{Values, allComputed, allOwed}
-use Rattle.examples.specs.Setting.{registersWith, enabled, enabledAfter, started, user, supervisor, replied, entryWith, oneEntry}
-use Rattle.examples.specs.Setting.{twoEntries}
+use Rattle.examples.specs.Scene.{registersWith, enabled, enabledAfter, started, user, supervisor, replied, entryWith, oneEntry}
+use Rattle.examples.specs.Scene.{twoEntries}
 use Rattle.examples.specs.Marked.{slotsOf, linear, selected, marked}
 use Rattle.examples.specs.Accesses.{row, rowAfter, kernelPage, openPage, rows, based, segments, tooWide, refusals}
 use Rattle.examples.specs.Conditions.{exceptions, globalEntry, highBits, hits}
 use Rattle.examples.specs.Calls.{short, caused, calls, largest, fields}
 use Rattle.examples.specs.Walks.{tables, good, shared, globalBroken, walks}
 use Rattle.examples.specs.Served.{machine, agedEntry, aged, reading, served}
-use Rattle.examples.specs.Stores.{entryOf, agreeing, sweeps, numbers, stores, settings}
+use Rattle.examples.specs.Stores.{entryOf, agreeing, sweeps, numbers, stores, guardedSettings}
 use Rattle.examples.specs.Ends.{last, ends}
 use Rattle.examples.specs.Sequences.{lent, fresh, worked, workedLines, strays, strayLines, outcomes}
 use Rattle.examples.specs.Sequences.{outcomeLines, sequences}
@@ -66,6 +66,6 @@ unfolding all count lowest vpnOf offsetOf location vpn15Of slotOf setOf unpack j
     servedRefusal outcomeOf triedReply missed loadedAt registersLoaded bufferLoaded afterMiss bufferAfterMiss firstTry walkFor accessReply
     accessBuffer servedReply servedBuffer isGuarded switchFits settingRefusal argumentRefusal settingReply refusal accepted effectBy
     requestOf effectOf leftBy callOn begun systemAfter callOf eventOf eventsOf linesOf machine agedEntry aged reading served entryOf
-    agreeing sweeps numbers stores settings last ends lent fresh worked workedLines strays strayLines outcomes outcomeLines sequences
+    agreeing sweeps numbers stores guardedSettings last ends lent fresh worked workedLines strays strayLines outcomes outcomeLines sequences
     examples
 all-hold = refl

@@ -18,7 +18,7 @@ use Rattle.sequence.specs.Demand3.{HoldsThroughout}
 use Rattle.sequence.specs.Systems.Moment.{Start}
 use Rattle.sequence.specs.Asks.{eventsOf, StraysRefused}
 use Rattle.sequence.proofs.Asking.{of-every-list}
-use Rattle.examples.specs.Setting.{registersWith, enabled, started, user}
+use Rattle.examples.specs.Scene.{registersWith, enabled, started, user}
 use Rattle.examples.specs.Walks.{tables, good}
 use Rattle.examples.specs.Served.{machine, reading}
 use Rattle.examples.specs.Sequences.{lent, fresh, outcomes, strays}

@@ -11,8 +11,8 @@ use Rattle.access.specs.declared.Physical.the-variants.{Address, None}
 use Rattle.mmu.specs.RawAccess.{rawReply}
 use Rattle.mmu.specs.declared.RawReply.the-variants.{Refused}
 use Rattle.examples.specs.Claims.{Example, _gives_}
-use Rattle.examples.specs.Setting.{reg, registersWith, started, user, supervisor, replied, oneEntry, twoEntries}
-use Rattle.examples.specs.Setting.{pageVpn, pageByte, frameByte}
+use Rattle.examples.specs.Scene.{reg, registersWith, started, user, supervisor, replied, oneEntry, twoEntries}
+use Rattle.examples.specs.Scene.{pageVpn, pageByte, frameByte}
 
 -- enable and test as given, acc_exc on, context 5, SELECT 7, and an old cause
 unfoldable pub row : (enable test : ℕ) → Registers

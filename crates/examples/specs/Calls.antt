@@ -15,7 +15,7 @@ use Rattle.control.specs.Starting.{startReply, startedBuffer}
 use Rattle.control.specs.Writing.{writeReply, bufferAfterWrite}
 use Rattle.control.specs.Reading.{readReply}
 use Rattle.examples.specs.Claims.{Example, _gives_}
-use Rattle.examples.specs.Setting.{reg, registersWith, enabledAfter, started, user, replied}
+use Rattle.examples.specs.Scene.{reg, registersWith, enabledAfter, started, user, replied}
 use Rattle.examples.specs.Marked.{selected}
 use Rattle.examples.specs.Accesses.{tooWide}
 

@@ -9,8 +9,8 @@ use Rattle.slots.specs.Buffer.Buffer.{Wide}
 use Rattle.access.specs.declared.Physical.the-variants.{Address, None}
 use Rattle.mmu.specs.RawAccess.{rawReply}
 use Rattle.examples.specs.Claims.{Example, _gives_}
-use Rattle.examples.specs.Setting.{enabled, enabledAfter, started, user, supervisor, replied, entryWith, oneEntry}
-use Rattle.examples.specs.Setting.{pageVpn, pageByte, frameByte}
+use Rattle.examples.specs.Scene.{enabled, enabledAfter, started, user, supervisor, replied, entryWith, oneEntry}
+use Rattle.examples.specs.Scene.{pageVpn, pageByte, frameByte}
 
 unfoldable pub exceptions : List Example
 exceptions =

@@ -19,7 +19,7 @@ use Rattle.store.specs.Sweep.{kept}
 use Rattle.store.specs.TableStore.{storeReply, bufferAfterStore}
 use Rattle.mmu.specs.ServedAccess.{servedReply, servedBuffer}
 use Rattle.examples.specs.Claims.{Example, _gives_}
-use Rattle.examples.specs.Setting.{enabled, enabledAfter, started, user}
+use Rattle.examples.specs.Scene.{enabled, enabledAfter, started, user}
 use Rattle.examples.specs.Walks.{good}
 use Rattle.examples.specs.Served.{machine, agedEntry, reading}
 use Rattle.examples.specs.Stores.{entryOf}

@@ -7,11 +7,11 @@ use Rattle.examples.specs.Conditions.{exceptions, hits}
 use Rattle.examples.specs.Calls.{calls, fields}
 use Rattle.examples.specs.Walks.{walks}
 use Rattle.examples.specs.Served.{served}
-use Rattle.examples.specs.Stores.{sweeps, stores, settings}
+use Rattle.examples.specs.Stores.{sweeps, stores, guardedSettings}
 use Rattle.examples.specs.Ends.{ends}
 use Rattle.examples.specs.Sequences.{sequences}
 
 unfoldable pub examples : List Example
 examples =
     marked ++ rows ++ segments ++ refusals ++ exceptions ++ hits ++ calls ++ fields ++ walks
-    ++ served ++ sweeps ++ stores ++ settings ++ ends ++ sequences
+    ++ served ++ sweeps ++ stores ++ guardedSettings ++ ends ++ sequences

@@ -1,5 +1,5 @@
 pub mod Claims
-pub mod Setting
+pub mod Scene
 pub mod Walks
 pub mod Served
 pub mod Stores

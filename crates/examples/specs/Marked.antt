@@ -13,8 +13,8 @@ use Rattle.control.specs.Writing.{bufferAfterWrite}
 use Rattle.mmu.specs.RawAccess.{rawReply}
 use Rattle.mmu.specs.ServedAccess.{servedBuffer}
 use Rattle.examples.specs.Claims.{Example, _gives_}
-use Rattle.examples.specs.Setting.{reg, registersWith, enabled, enabledAfter, started, user, supervisor, replied}
-use Rattle.examples.specs.Setting.{oneEntry, twoEntries, pageVpn, pageByte, frameByte}
+use Rattle.examples.specs.Scene.{reg, registersWith, enabled, enabledAfter, started, user, supervisor, replied}
+use Rattle.examples.specs.Scene.{oneEntry, twoEntries, pageVpn, pageByte, frameByte}
 use Rattle.examples.specs.Walks.{good}
 use Rattle.examples.specs.Served.{machine, reading}
 

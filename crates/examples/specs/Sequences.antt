@@ -16,7 +16,7 @@ use Rattle.sequence.specs.Systems.{System, begun}
 use Rattle.sequence.specs.Asks.{Ask, Line, eventsOf, linesOf}
 use Rattle.sequence.specs.Asks.Ask.{Now, Stray}
 use Rattle.examples.specs.Claims.{Example, _gives_}
-use Rattle.examples.specs.Setting.{reg, registersWith, enabled, started, user, supervisor}
+use Rattle.examples.specs.Scene.{reg, registersWith, enabled, started, user, supervisor}
 use Rattle.examples.specs.Walks.{good}
 use Rattle.examples.specs.Served.{machine, reading}
 

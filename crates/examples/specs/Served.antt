@@ -15,8 +15,8 @@ use Rattle.slots.specs.Buffer.Buffer.{Wide}
 use Rattle.store.specs.Machine.{Machine}
 use Rattle.mmu.specs.ServedAccess.{servedReply, servedBuffer}
 use Rattle.examples.specs.Claims.{Example, _gives_}
-use Rattle.examples.specs.Setting.{reg, registersWith, enabled, enabledAfter, started, user, supervisor, twoEntries, pageVpn}
-use Rattle.examples.specs.Setting.{pageByte}
+use Rattle.examples.specs.Scene.{reg, registersWith, enabled, enabledAfter, started, user, supervisor, twoEntries, pageVpn}
+use Rattle.examples.specs.Scene.{pageByte}
 use Rattle.examples.specs.Walks.{tables, good, shared, globalBroken}
 
 unfoldable pub machine : Registers → Buffer → (words : List ℕ) → Machine

@@ -14,7 +14,7 @@ use Rattle.store.specs.Sweep.{kept}
 use Rattle.store.specs.TableStore.{storeReply, bufferAfterStore, wordsAfterStore}
 use Rattle.control.specs.Setting.{settingReply}
 use Rattle.examples.specs.Claims.{Example, _gives_}
-use Rattle.examples.specs.Setting.{reg, registersWith, enabled, started}
+use Rattle.examples.specs.Scene.{reg, registersWith, enabled, started}
 use Rattle.examples.specs.Walks.{tables, good, shared, globalBroken}
 use Rattle.examples.specs.Served.{machine}
 
@@ -105,8 +105,8 @@ stores =
     ∷ (wordsAfterStore (machine (enabled 6 7) (Wide (replicate 65 0)) good) (put-at 5 0) gives good)
     ∷ []
 
-unfoldable pub settings : List Example
-settings =
+unfoldable pub guardedSettings : List Example
+guardedSettings =
     -- each at its largest value
     (settingReply (enabled 5 7) KSEG 0xFFFF gives done (put (enabled 5 7) KSEG 0xFFFF) 0)
     ∷ (settingReply (enabled 5 7) CTRL 7 gives done (put (enabled 5 7) CTRL 7) 0)

@@ -31,7 +31,7 @@ use Rattle.sequence.specs.Reader.{Reader, startReader, settingsOf}
 use Rattle.sequence.specs.Account.{Slots, startSlots}
 use Rattle.sequence.specs.Calls.{Event, refusal, accepted, effectBy, leftBy, Promised}
 use Rattle.sequence.specs.Systems.{System, begun, systemAfter, Moment, IfAccepted, IfRefused}
-use Rattle.sequence.specs.Sentences.{Answered, Counted, Loaded}
+use Rattle.sequence.specs.Sentences.{AnsweredAsReader, Counted, Loaded}
 use Rattle.sequence.specs.Sentences.{RefusalHasNoEffect, SlotIs, InService}
 use Rattle.sequence.specs.Demand3.{Holds, HoldsThroughout, Handed, HandedThroughout, Demand3}
 use Rattle.sequence.specs.Systems.Moment.{Start, After}
@@ -50,7 +50,7 @@ pub record Good (s : System) : Type 0 where
 
 -- what an event has shown
 pub record Shown (at : Moment) : Type 0 where
-  pub answer : IfAccepted Answered at
+  pub answer : IfAccepted AnsweredAsReader at
   pub loads : IfAccepted Loaded at
   pub count : IfAccepted Counted at
   pub refusal : IfRefused RefusalHasNoEffect at
@@ -116,7 +116,7 @@ step-refused s e g h no′ = record {
 -- for a system that its machine and the account decide
 taken-of : (m : Machine) (slots : Slots) (e : Event) → Good (systemOf m slots) → Handed m e → accepted (e .call) ≡ true
     → Step (systemOf m slots) e
-unfolding systemOf systemAfter leftBy IfAccepted IfRefused Answered Counted Promised
+unfolding systemOf systemAfter leftBy IfAccepted IfRefused AnsweredAsReader Counted Promised
 taken-of m slots e g h ok = record {
   good = rw ok (record { sound = f .sound; reader-is = sym (f .reader); same-slots = f .same-slots });
   shown = record {

@@ -15,7 +15,7 @@ use Rattle.sequence.specs.Reader.{settingsOf}
 use Rattle.sequence.specs.Calls.{Event, accepted, handed, Promised}
 use Rattle.sequence.specs.Systems.{System, begun, systemAfter, Moment, IfAccepted, IfRefused}
 use Rattle.sequence.specs.Systems.Moment.{Start, After}
-use Rattle.sequence.specs.Sentences.{Answered, Counted, Loaded, RefusalHasNoEffect, SlotIs, InService}
+use Rattle.sequence.specs.Sentences.{AnsweredAsReader, Counted, Loaded, RefusalHasNoEffect, SlotIs, InService}
 
 pub record Holds (s : System) (at : Moment) : Type 0 where
   -- "No more than one entry hits any address under any identification from 0 to 62, under any setting of CTRL's three bits."
@@ -24,7 +24,7 @@ pub record Holds (s : System) (at : Moment) : Type 0 where
   pub same-words : s .machine .words ≡ s .reader .words
   pub same-settings : settingsOf (s .machine .registers) ≡ s .reader .settings
   -- "Each accepted access gave the address or fault value that the reader gets."
-  pub same-answer : IfAccepted Answered at
+  pub same-answer : IfAccepted AnsweredAsReader at
   -- "It loaded and counted one entry exactly when its first try missed and the reader's walk found a leaf, else none."
   pub right-loads : IfAccepted Loaded at
   -- "Each slot's 44 bits are those that document 01's loads and sweeps at these calls, begun with every slot empty, leave there."

@@ -18,8 +18,8 @@ use Rattle.sequence.specs.Requests.{Request, ownRefusal}
 use Rattle.sequence.specs.Calls.{callOn}
 use Rattle.sequence.specs.Systems.{System}
 
-unfoldable pub Answered : System → Event → Type 0
-Answered s e = AnswerOwed (s .reader) (effectBy (e .call)) (e .reply .outcome)
+unfoldable pub AnsweredAsReader : System → Event → Type 0
+AnsweredAsReader s e = AnswerOwed (s .reader) (effectBy (e .call)) (e .reply .outcome)
 
 unfoldable pub Counted : System → Event → Type 0
 Counted s e = CountOwed (s .reader) (s .slots) (effectBy (e .call)) (e .reply .outcome)
