@@ -190,28 +190,14 @@ fn read_words(bytes: &mut [u8], words: &mut [u32]) -> bool
 fn write_answer(a: Answer, numbers: &[u64], bytes: &mut [u8])
     requires { ⌜ length (now bytes) ≡ 8 * length (now numbers) ⌝ }
 {
-    let r = a.registers;
-    let w = registers::to_words(r);
-    let words = [
-        a.first,
-        a.second,
-        a.third,
-        a.fourth,
-        w[0],
-        w[1],
-        w[2],
-        w[3],
-        w[4],
-        w[5],
-        w[6],
-        w[7],
-        w[8],
-        w[9],
-        w[10],
-    ];
-    let mut head = [0u8; 60];
-    wire::encode32(&words, &mut head);
+    let mut head = [0u8; 16];
+    wire::encode32(&[a.first, a.second, a.third, a.fourth], &mut head);
     io::write_all(1, &head);
+    let r = a.registers;
+    let words = registers::to_words(r);
+    let mut fields = [0u8; 44];
+    wire::encode32(&words, &mut fields);
+    io::write_all(1, &fields);
     wire::encode64(numbers, bytes);
     io::write_all(1, bytes);
 }
@@ -228,21 +214,9 @@ fn write_tables(kind: u32, tables: &[u32], bytes: &mut [u8])
     io::write_all(1, &bytes[..end]);
 }
 
-// The request that a head of nineteen words holds; a kind that is none where the input has ended.
-fn requested(got: bool, w: [u32; 19]) -> Request {
-    let registers = registers::from_words([
-        w[8],
-        w[9],
-        w[10],
-        w[11],
-        w[12],
-        w[13],
-        w[14],
-        w[15],
-        w[16],
-        w[17],
-        w[18],
-    ]);
+// The request that a head of eight words and the registers hold; a kind that is none where the input has ended.
+fn requested(got: bool, w: [u32; 8], fields: [u32; 11]) -> Request {
+    let registers = registers::from_words(fields);
     Request {
         kind: if got { w[0] } else { 9 },
         first: w[1],
@@ -256,10 +230,13 @@ fn requested(got: bool, w: [u32; 19]) -> Request {
 }
 
 fn read_request() -> Request {
-    let mut head = [0u8; 76];
-    let mut words = [0u32; 19];
-    let got = read_words(&mut head, &mut words);
-    requested(got, words)
+    let mut bytes = [0u8; 32];
+    let mut words = [0u32; 8];
+    let head = read_words(&mut bytes, &mut words);
+    let mut field_bytes = [0u8; 44];
+    let mut fields = [0u32; 11];
+    let got = head & read_words(&mut field_bytes, &mut fields);
+    requested(got, words, fields)
 }
 
 // Reads so many table words, or none; answers how many are held then.
