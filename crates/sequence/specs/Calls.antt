@@ -17,6 +17,7 @@ use Rattle.sequence.specs.Effects.{Effect}
 use Rattle.sequence.specs.Requests.{Request, effectOf}
 use Rattle.sequence.specs.Requests.Request.{ToAccess, ToStore, ToSet}
 
+-- a guarded setting is handed registers alone
 pub data Call : Type 0 where
   ServedAccess : (given : Machine) (a : Access) → Call
   TableStore : (given : Machine) (p : Put) → Call

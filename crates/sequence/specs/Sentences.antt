@@ -18,9 +18,11 @@ use Rattle.sequence.specs.Requests.{Request, ownRefusal}
 use Rattle.sequence.specs.Calls.{callOn}
 use Rattle.sequence.specs.Systems.{System}
 
+-- an accepted call gave the answer that its effect owes: an access the reader's
 unfoldable pub AnsweredAsReader : System → Event → Type 0
 AnsweredAsReader s e = AnswerOwed (s .reader) (effectBy (e .call)) (e .reply .outcome)
 
+-- an accepted call gave the count that its effect owes: a store the slots that the account emptied
 unfoldable pub Counted : System → Event → Type 0
 Counted s e = CountOwed (s .reader) (s .slots) (effectBy (e .call)) (e .reply .outcome)
 
@@ -38,19 +40,23 @@ NoneStored s (Serve a) after = loadsOwed (s .reader) (s .slots) (Serve a) ≡ 0 
 NoneStored s (Rewrite gs) after = Unit {0}
 NoneStored s (Set number value) after = Unit {0}
 
+-- an accepted call loaded and counted the entries that its effect owes
 pub record Loaded (s : System) (e : Event) : Type 0 where
   pub first-try : FirstTryAgrees s (effectBy (e .call))
   pub loads-are : e .reply .loads ≡ loadsOwed (s .reader) (s .slots) (effectBy (e .call))
   pub else-none : NoneStored s (effectBy (e .call)) (e .buffer)
 
+-- a refused call answered its number, count 0 and the registers that it was handed, and left what it was handed
 pub record RefusalHasNoEffect (s : System) (e : Event) : Type 0 where
   pub reply-is : e .reply ≡ refused ((handed (s .machine) (e .call)) .registers) (refusal (e .call))
   pub untouched : leftBy e ≡ handed (s .machine) (e .call)
 
+-- the 44 bits of a slot are the number of these fields, and these are its fields
 pub record SlotIs (e : ℕ) (f : Entry) : Type 0 where
   pub bits-are : e ≡ pack f
   pub fields-are : unpack e ≡ f
 
+-- every call can be made on this machine
 pub record InService (m : Machine) : Type 0 where
   pub registers-fit : registersFit (m .registers) ≡ true
   pub buffer-fits : bufferFits (m .buffer) ≡ true
