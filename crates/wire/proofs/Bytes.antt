@@ -1,13 +1,15 @@
 -- Laws of a number's bytes, over their count. Assumes nothing.
-use Prim.Native.Nat.{ℕ, zero, suc, _+_, _*_, _/_, _%_, _^_, _<_}
+use Prim.Native.Nat.{ℕ, zero, suc, _+_, _*_, _/_, _%_, _^_, _≤_, _<_}
 use mathlib.Core.Path.{_≡_, refl, sym, ap₂, _∙_}
+use mathlib.Core.Logic.{⊎-elim}
 use mathlib.Core.List.{List, [], _∷_, _++_}
-use native.Mathlib.Nat.{zero-add, add-zero, add-suc, add-assoc, mul-assoc, pow-zero, pow-suc, lt-suc-self}
+use native.Mathlib.Nat.{zero-add, add-zero, add-suc, add-assoc, mul-assoc, pow-zero}
+use native.Mathlib.Nat.{pow-suc, lt-suc-self, not-suc-le-zero, le-of-suc-le-suc, eq-or-lt-of-le}
 use native.Mathlib.Numerals.{add-one}
 use native.Mathlib.Omega.{arith}
 use lib.ListN.{length, getD, length-append, List·getD-append}
 use lib.Seq.{getD-at}
-use Rattle.wire.specs.Wire.{bytesOf, numberAt, elementAt}
+use Rattle.wire.specs.Wire.{bytesOf, numberAt, elementAt, AreBytes}
 
 -- w bytes are w
 pub wide : (w x : ℕ) → length (bytesOf w x) ≡ w
@@ -32,10 +34,13 @@ number-joins bytes at v (suc w) =
     rw (add-suc, pow-suc, p, add-assoc at v w) (omega arith)
 
 -- a number of eight bytes from its two words
-pub halves : (bytes : List ℕ) (i high low : ℕ) → high ≡ numberAt 4 bytes (8 * i) → low ≡ numberAt 4 bytes (8 * i + 4)
+pub halves : (bytes : List ℕ) (i high low : ℕ) → high ≡ elementAt 4 bytes (2 * i) → low ≡ elementAt 4 bytes (2 * i + 1)
     → high * 4294967296 + low ≡ elementAt 8 bytes i
 unfolding elementAt
-halves bytes i high low h l = rw (h, l) (number-joins bytes (8 * i) 4 4)
+halves bytes i high low h l =
+    let a : 4 * (2 * i) ≡ 8 * i = omega arith in
+    let b : 4 * (2 * i + 1) ≡ 8 * i + 4 = omega arith in
+    rw (h, l, a, b) (number-joins bytes (8 * i) 4 4)
 
 -- a number within w bytes is the number of its bytes
 pub number-of-bytes : (w x : ℕ) → x < 256 ^ w → numberAt w (bytesOf w x) 0 ≡ x
@@ -55,3 +60,33 @@ number-of-bytes (suc w) x h =
 
     lowest : getD (front ++ (x % 256 ∷ [])) (0 + w) 0 ≡ x % 256
     lowest = getD-at front (x % 256) [] 0 (0 + w) (wide w (x / 256) ∙ sym (zero-add w))
+
+-- w bytes are those of their number
+pub bytes-of-number : (bytes : List ℕ) (at w : ℕ) → AreBytes bytes → at + w ≤ length bytes
+    → (j : ℕ) → j < w → getD (bytesOf w (numberAt w bytes at)) j 0 ≡ getD bytes (at + j) 0
+unfolding bytesOf numberAt
+bytes-of-number bytes at zero r h j l = absurd (not-suc-le-zero l)
+bytes-of-number bytes at (suc w) r h j l =
+    rw (quotient, remainder)
+    (⊎-elim last (λ k. before k (bytes-of-number bytes at w r (omega arith) j k)) (eq-or-lt-of-le (le-of-suc-le-suc l)))
+  where
+    n : ℕ
+    n = numberAt w bytes at
+
+    byte : ℕ
+    byte = getD bytes (at + w) 0
+
+    small : byte < 256
+    small = r (at + w) (omega arith)
+
+    quotient : (n * 256 + byte) / 256 ≡ n
+    quotient = omega (arith, small)
+
+    remainder : (n * 256 + byte) % 256 ≡ byte
+    remainder = omega (arith, small)
+
+    last : j ≡ w → getD (bytesOf w n ++ (byte ∷ [])) j 0 ≡ getD bytes (at + j) 0
+    last e = rw e (getD-at (bytesOf w n) byte [] 0 w (wide w n))
+
+    before : j < w → getD (bytesOf w n) j 0 ≡ getD bytes (at + j) 0 → getD (bytesOf w n ++ (byte ∷ [])) j 0 ≡ getD bytes (at + j) 0
+    before k e = List·getD-append (bytesOf w n) (byte ∷ []) 0 j (rw (wide w n) k) ∙ e

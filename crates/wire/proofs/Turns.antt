@@ -1,6 +1,6 @@
 -- The turns of the loops that read and write bytes. Assumes nothing.
 use Prim.Native.Nat.{ℕ, suc, _+_, _-_, _*_, _/_, _%_, _^_, _≤_, _<_}
-use mathlib.Core.Path.{_≡_, sym, ap, _∙_}
+use mathlib.Core.Path.{_≡_, refl, sym, ap, _∙_}
 use mathlib.Core.Logic.{⊎-elim}
 use mathlib.Core.List.{List, [], _∷_, _++_, append-assoc, append-nil}
 use native.Mathlib.Nat.{pow-suc, pow-le-pow-right, le-of-suc-le-suc, eq-or-lt-of-le, zero-add, mul-zero, mul-suc, mul-comm, mul-le-mul-left}
@@ -8,11 +8,11 @@ use native.Mathlib.Numerals.{add-one}
 use native.Mathlib.Omega.{arith}
 use lib.ListN.{length, getD, set, take, drop, length-set, drop-of-length-le}
 use lib.Seq.{drop-cons, drop-set-lt, getD-set-same, getD-set-other, ext-getD}
-use borrow.Rule.Slice.PartMut.{putMid, midOf}
 use Rattle.runs.specs.Pieces.{tabulate, flat}
-use Rattle.runs.proofs.Pieces.{tab-length, tab-at, mid-front, flat-more, flat-all}
-use Rattle.wire.specs.Wire.{bytesOf, numberAt}
+use Rattle.runs.proofs.Pieces.{tab-length, tab-at, flat-more, flat-all}
+use Rattle.wire.specs.Wire.{bytesOf, numberAt, withElement}
 use Rattle.wire.proofs.Bytes.{wide}
+use Rattle.wire.proofs.Elements.{with-mid}
 
 -- a loop that reads the w bytes at an index, most significant first: `left` are not read yet, and n is the number of the others
 module _ (bytes : List ℕ) (at w : ℕ) where
@@ -127,19 +127,15 @@ module _ (w : ℕ) (xs first : List ℕ) where
   pub encoded-none : length first ≡ w * length xs → Encoded first 0
   encoded-none e = record { some = omega arith; room = e; long = e; same = rw mul-zero }
 
-  pub encoded-more : (bytes part : List ℕ) (i from to : ℕ) → Encoded bytes i → i < length xs → from ≡ w * i → to ≡ from + w
-      → part ≡ bytesOf (length (midOf from (to - from) bytes)) (getD xs i 0) → Encoded (putMid from (to - from) bytes part) (i + 1)
-  encoded-more bytes part i from to r l f t p =
+  pub encoded-more : (bytes : List ℕ) (i : ℕ) → Encoded bytes i → i < length xs → Encoded (withElement w bytes i (getD xs i 0)) (i + 1)
+  encoded-more bytes i r l =
       let end : w * suc i ≤ w * length xs = mul-le-mul-left w l in
-      let next : w * (i + 1) ≡ from + w = rw (add-one, mul-suc, f) in
-      let inside : from + w ≤ length bytes = rw (r .long, ← next, add-one) end in
-      let k : to - from ≡ w = omega arith in
-      let piece : length (midOf from (to - from) bytes) ≡ w = mid-front bytes from (to - from) (rw k inside) ∙ k in
-      let same : bytes ≡ flat (bytesOf w) (take i xs) ++ drop from first = rw f (r .same) in
+      let next : w * (i + 1) ≡ w * i + w = rw (add-one, mul-suc) in
+      let inside : w * i + w ≤ length bytes = rw (r .long, ← next, add-one) end in
       let more =
-      flat-more (bytesOf w) w (wide w) i from (w * (i + 1)) (to - from) xs first bytes part
-      (f ∙ mul-comm w i) next k inside l same (p ∙ rw piece) in
-      record { some = omega arith; room = r .room; long = more .0 ∙ r .long; same = more .1 }
+      flat-more (bytesOf w) w (wide w) i (w * i) (w * (i + 1)) w xs first bytes (bytesOf w (getD xs i 0))
+      (mul-comm w i) next refl inside l (r .same) refl in
+      rw (with-mid w bytes i (getD xs i 0)) (record { some = omega arith; room = r .room; long = more .0 ∙ r .long; same = more .1 })
 
   pub encoded-all : (bytes : List ℕ) (i : ℕ) → Encoded bytes i → length xs ≤ i → bytes ≡ flat (bytesOf w) xs
   encoded-all bytes i r l =

@@ -2,7 +2,7 @@
 ghost use mathlib.Core.Path.{_≡_};
 ghost use Prim.Native.Nat.{_+_, _*_, _≤_, _<_};
 ghost use lib.ListN.{length};
-ghost use Rattle.wire.specs.Wire.{bytesOf, decoded, encoded, numberAt};
+ghost use Rattle.wire.specs.Wire.{AreBytes, bytesOf, decoded, elementAt, encoded, withElement};
 
 // A byte as a number.
 fn wide(x: u8) -> u32
@@ -11,20 +11,30 @@ fn wide(x: u8) -> u32
     x as u32
 }
 
-// The word whose four bytes start at an index.
-fn word_at(bytes: &[u8], at: usize) -> u32
-    requires { ⌜ at + 4 ≤ length (now bytes) ⌝ }
-    ensures number { λ r. ⌜ r ≡ numberAt 4 (now (bytes .entry)) at ⌝ }
-    ensures within { λ r. ⌜ r < 4294967296 ⌝ }
+// The word of an index in a run of words.
+pub fn word_at(bytes: &[u8], index: usize) -> u32
+    requires { ⌜ 4 * index + 4 ≤ length (now bytes) ⌝ }
+    ensures { λ r. ⌜ r ≡ elementAt 4 (now (bytes .entry)) index ⌝ }
 {
     let mut number: u32 = 0;
     let mut weight = 4;
     while 0 < weight {
         weight -= 1;
         let place = 3 - weight;
-        number = number * 256 + wide(bytes[at + place]);
+        number = number * 256 + wide(bytes[4 * index + place]);
     }
     number
+}
+
+// The number of an index in a run of numbers of eight bytes.
+pub fn number_at(bytes: &[u8], index: usize) -> u64
+    requires { ⌜ 8 * index + 8 ≤ length (now bytes) ⌝ }
+    ensures number { λ r. ⌜ r ≡ elementAt 8 (now (bytes .entry)) index ⌝ }
+    ensures bytes { λ _. ⌜ AreBytes (now (bytes .entry)) ⌝ }
+{
+    let high = word_at(bytes, 2 * index) as u64;
+    let low = word_at(bytes, 2 * index + 1) as u64;
+    high * 4294967296 + low
 }
 
 // Writes as many bytes of a number as the run has.
@@ -41,6 +51,26 @@ fn put_bytes(bytes: &mut [u8], x: u64)
     }
 }
 
+// Writes the word of an index in a run of words.
+pub fn put_word(bytes: &mut [u8], index: usize, x: u32)
+    requires { ⌜ 4 * index + 4 ≤ length (now bytes) ⌝ }
+    ensures { λ _. ⌜ now (bytes .exit) ≡ withElement 4 (now (bytes .entry)) index x ⌝ }
+{
+    let from = 4 * index;
+    let to = from + 4;
+    put_bytes(&mut bytes[from..to], x as u64);
+}
+
+// Writes the number of an index in a run of numbers of eight bytes.
+pub fn put_number(bytes: &mut [u8], index: usize, x: u64)
+    requires { ⌜ 8 * index + 8 ≤ length (now bytes) ⌝ }
+    ensures { λ _. ⌜ now (bytes .exit) ≡ withElement 8 (now (bytes .entry)) index x ⌝ }
+{
+    let from = 8 * index;
+    let to = from + 8;
+    put_bytes(&mut bytes[from..to], x);
+}
+
 // Fills the words from the front of the bytes.
 pub fn decode32(bytes: &[u8], words: &mut [u32])
     requires { ⌜ 4 * length (now words) ≤ length (now bytes) ⌝ }
@@ -48,7 +78,7 @@ pub fn decode32(bytes: &[u8], words: &mut [u32])
 {
     let mut i = 0;
     while i < words.len() {
-        words[i] = word_at(bytes, 4 * i);
+        words[i] = word_at(bytes, i);
         i += 1;
     }
 }
@@ -60,9 +90,7 @@ pub fn encode32(words: &[u32], bytes: &mut [u8])
 {
     let mut i = 0;
     while i < words.len() {
-        let from = 4 * i;
-        let to = from + 4;
-        put_bytes(&mut bytes[from..to], words[i] as u64);
+        put_word(bytes, i, words[i]);
         i += 1;
     }
 }
@@ -74,9 +102,7 @@ pub fn decode64(bytes: &[u8], numbers: &mut [u64])
 {
     let mut i = 0;
     while i < numbers.len() {
-        let high = word_at(bytes, 8 * i) as u64;
-        let low = word_at(bytes, 8 * i + 4) as u64;
-        numbers[i] = high * 4294967296 + low;
+        numbers[i] = number_at(bytes, i);
         i += 1;
     }
 }
@@ -88,9 +114,7 @@ pub fn encode64(numbers: &[u64], bytes: &mut [u8])
 {
     let mut i = 0;
     while i < numbers.len() {
-        let from = 8 * i;
-        let to = from + 8;
-        put_bytes(&mut bytes[from..to], numbers[i]);
+        put_number(bytes, i, numbers[i]);
         i += 1;
     }
 }

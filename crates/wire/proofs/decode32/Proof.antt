@@ -17,9 +17,6 @@ abbrev μ-loop : tie.MeasureT-loop
 loop-holds : tie.Need-loop-holds Inv-loop μ-loop
 loop-holds c = filled-none _ _ _ refl
 
-mul-word-at : tie.Need-mul-word-at Inv-loop μ-loop
-mul-word-at c = omega arith
-
 word-at-requires : tie.Need-word-at-requires Inv-loop μ-loop
 word-at-requires c κs = omega arith
 
@@ -36,8 +33,7 @@ loop-less : tie.Need-loop-less Inv-loop μ-loop
 loop-less c = omega arith
 
 loop-again : tie.Need-loop-again Inv-loop μ-loop
-unfolding elementAt
-loop-again c = filled-more _ _ _ _ _ (c .before .before .loop .inv) (omega arith) (c .word-at .ensures .0)
+loop-again c = filled-more _ _ _ _ _ (c .before .before .loop .inv) (omega arith) (c .word-at .ensures)
 
 same-length : tie.Need-same-length Inv-loop μ-loop
 same-length c = c .before .loop .inv .long
@@ -53,7 +49,6 @@ decode32-spec =
     Inv-loop
     μ-loop
     loop-holds
-    mul-word-at
     word-at-requires
     mul-words
     slice-write-words

@@ -4,7 +4,6 @@ use mathlib.Core.Path.{refl}
 use native.Mathlib.Omega.{arith}
 use lib.ListN.{length}
 use Rattle.wire.specs.Wire.{elementAt, decoded}
-use Rattle.wire.proofs.Bytes.{halves}
 use Rattle.wire.proofs.Turns.{Filled, filled-none, filled-more, filled-all}
 use Rattle.wire.proofs.decode64.Statement.{statement}
 use Rattle.wire.proofs.decode64.Tie as tie
@@ -18,35 +17,11 @@ abbrev μ-loop : tie.MeasureT-loop
 loop-holds : tie.Need-loop-holds Inv-loop μ-loop
 loop-holds c = filled-none _ _ _ refl
 
-mul-word-at : tie.Need-mul-word-at Inv-loop μ-loop
-mul-word-at c = omega arith
-
-word-at-requires : tie.Need-word-at-requires Inv-loop μ-loop
-word-at-requires c κs = omega arith
-
-cast-high : tie.Need-cast-high Inv-loop μ-loop
-cast-high c = omega arith
-
-mul-word-at-2 : tie.Need-mul-word-at-2 Inv-loop μ-loop
-mul-word-at-2 c = omega arith
-
-add-word-at : tie.Need-add-word-at Inv-loop μ-loop
-add-word-at c = omega arith
-
-word-at-requires-2 : tie.Need-word-at-requires-2 Inv-loop μ-loop
-word-at-requires-2 c κs = omega arith
-
-cast-low : tie.Need-cast-low Inv-loop μ-loop
-cast-low c = omega arith
+number-at-requires : tie.Need-number-at-requires Inv-loop μ-loop
+number-at-requires c κs = omega arith
 
 mul-numbers : tie.Need-mul-numbers Inv-loop μ-loop
 mul-numbers c = omega arith
-
-add-numbers : tie.Need-add-numbers Inv-loop μ-loop
-add-numbers c = omega arith
-
-mul-numbers-2 : tie.Need-mul-numbers-2 Inv-loop μ-loop
-mul-numbers-2 c = omega arith
 
 slice-write-numbers : tie.Need-slice-write-numbers Inv-loop μ-loop
 slice-write-numbers c = omega arith
@@ -58,9 +33,7 @@ loop-less : tie.Need-loop-less Inv-loop μ-loop
 loop-less c = omega arith
 
 loop-again : tie.Need-loop-again Inv-loop μ-loop
-loop-again c =
-    let whole = halves _ _ _ _ (c .before .word-at .ensures .0) (c .word-at2 .ensures .0) in
-    filled-more _ _ _ _ _ (c .before .before .before .loop .inv) (omega arith) whole
+loop-again c = filled-more _ _ _ _ _ (c .before .before .loop .inv) (omega arith) (c .number-at .ensures .0)
 
 same-length : tie.Need-same-length Inv-loop μ-loop
 same-length c = c .before .loop .inv .long
@@ -76,16 +49,8 @@ decode64-spec =
     Inv-loop
     μ-loop
     loop-holds
-    mul-word-at
-    word-at-requires
-    cast-high
-    mul-word-at-2
-    add-word-at
-    word-at-requires-2
-    cast-low
+    number-at-requires
     mul-numbers
-    add-numbers
-    mul-numbers-2
     slice-write-numbers
     add-i
     loop-less

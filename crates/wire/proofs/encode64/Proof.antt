@@ -1,6 +1,5 @@
 -- `wire::encode64` meets its contract: the loop's invariant is `Encoded`. Assumes nothing.
 use Prim.Native.Nat.{_-_}
-use mathlib.Core.Path.{refl}
 use native.Mathlib.Omega.{arith}
 use lib.ListN.{length}
 use Rattle.wire.specs.Wire.{encoded}
@@ -17,29 +16,14 @@ abbrev μ-loop : tie.MeasureT-loop
 loop-holds : tie.Need-loop-holds Inv-loop μ-loop
 loop-holds c = encoded-none _ _ _ (c .before .before .pre)
 
-mul-from : tie.Need-mul-from Inv-loop μ-loop
-mul-from c = omega arith
+mul-put-number : tie.Need-mul-put-number Inv-loop μ-loop
+mul-put-number c = omega arith
 
-add-to : tie.Need-add-to Inv-loop μ-loop
-add-to c = omega arith
+shared-slice-read-put-number : tie.Need-shared-slice-read-put-number Inv-loop μ-loop
+shared-slice-read-put-number c = omega arith
 
-sub-put-bytes : tie.Need-sub-put-bytes Inv-loop μ-loop
-sub-put-bytes c = omega arith
-
-part-put-bytes-start : tie.Need-part-put-bytes-start Inv-loop μ-loop
-part-put-bytes-start c = omega arith
-
-part-put-bytes-end : tie.Need-part-put-bytes-end Inv-loop μ-loop
-part-put-bytes-end c = omega arith
-
-mul-put-bytes : tie.Need-mul-put-bytes Inv-loop μ-loop
-mul-put-bytes c = omega arith
-
-shared-slice-read-put-bytes : tie.Need-shared-slice-read-put-bytes Inv-loop μ-loop
-shared-slice-read-put-bytes c = omega arith
-
-put-bytes-requires : tie.Need-put-bytes-requires Inv-loop μ-loop
-put-bytes-requires c κs = tt
+put-number-requires : tie.Need-put-number-requires Inv-loop μ-loop
+put-number-requires c κs = omega arith
 
 add-i : tie.Need-add-i Inv-loop μ-loop
 add-i c = omega arith
@@ -49,8 +33,8 @@ loop-less c = omega arith
 
 loop-again : tie.Need-loop-again Inv-loop μ-loop
 loop-again c =
-    let turn = c .before .before .before .before .before in
-    encoded-more _ _ _ _ _ _ _ _ (turn .before .loop .inv) (turn .loop-test .taken) refl refl (c .before .before .put-bytes .ensures)
+    let so-far = c .before .before .before .before .before .before .loop .inv in
+    rw (c .before .before .put-number .ensures) (encoded-more _ _ _ _ _ so-far (omega arith))
 
 same-length : tie.Need-same-length Inv-loop μ-loop
 same-length c = omega arith
@@ -66,14 +50,9 @@ encode64-spec =
     Inv-loop
     μ-loop
     loop-holds
-    mul-from
-    add-to
-    sub-put-bytes
-    part-put-bytes-start
-    part-put-bytes-end
-    mul-put-bytes
-    shared-slice-read-put-bytes
-    put-bytes-requires
+    mul-put-number
+    shared-slice-read-put-number
+    put-number-requires
     add-i
     loop-less
     loop-again
