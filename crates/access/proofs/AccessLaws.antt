@@ -1,12 +1,13 @@
 -- The ways through a raw access: what each gives is what the definitions say. Assumes nothing.
 use Prim.Native.Nat.{ℕ, zero, suc, _+_, _*_, _%_, _<_}
 use mathlib.Core.Path.{_≡_, refl, sym, _∙_}
-use mathlib.Core.Bool.{Bool, true, false, not, _&&_, Bool·not-not}
+use mathlib.Core.Bool.{Bool, true, false, not, _&&_, true≢false, Bool·not-not}
 use native.Mathlib.Omega.{arith}
 use lib.Dec.{eqb, lit<}
 use borrow.Author.Tests.{eq-eqb, ne-eqb, leb-true}
 use mir.Val.{boolByte}
 use Rattle.runs.proofs.Bits.{bit-byte, bits-low}
+use Rattle.runs.proofs.Bools.{both}
 use Rattle.entry.specs.Address.{vpnOf, offsetOf, slotOf}
 use Rattle.entry.specs.Entry.{unpack}
 use Rattle.entry.specs.declared.Entry.{Entry}
@@ -158,14 +159,17 @@ module _ (r : Registers) (b : Buffer) (a : Access) (x : Translation) (t : Bool) 
   unfolding translate
   way-linear address h e p q = q ∙ rw p (sym (rw (sym tq ∙ h, is-on (r .enable) e)))
 
-  pub way-off : t ≡ false → r .enable ≡ 0 → r .test ≡ 0 → x ≡ noException r (a .address) → x ≡ translate r b a
-  unfolding translate
-  way-off h e k q = q ∙ sym (rw (sym tq ∙ h, is-off (r .enable) e, is-off (r .test) k))
+  pub way-off : t ≡ false → eqb (r .enable) 0 && eqb (r .test) 0 ≡ true → x ≡ noException r (a .address) → x ≡ translate r b a
+  unfolding translate isSet
+  way-off h o q =
+      let off = both (eqb (r .enable) 0) (eqb (r .test) 0) o in
+      q ∙ sym (rw (sym tq ∙ h, off .0, off .1))
 
-  pub way-test : t ≡ false → r .enable ≡ 0 → (r .test ≡ 0 → ⊥) → x ≡ pageMapped r b a → x ≡ translate r b a
-  unfolding translate
-  way-test h e k q = q ∙ sym (rw (sym tq ∙ h, is-off (r .enable) e, is-on (r .test) k))
-
-  pub way-mapped : t ≡ false → (r .enable ≡ 0 → ⊥) → x ≡ pageMapped r b a → x ≡ translate r b a
-  unfolding translate
-  way-mapped h e q = q ∙ sym (rw (sym tq ∙ h, is-on (r .enable) e))
+  pub way-mapped : t ≡ false → eqb (r .enable) 0 && eqb (r .test) 0 ≡ false → x ≡ pageMapped r b a → x ≡ translate r b a
+  unfolding translate isSet
+  way-mapped h o q = q ∙ go (eqb (r .enable) 0) (eqb (r .test) 0) refl refl o
+    where
+      go : (e k : Bool) → eqb (r .enable) 0 ≡ e → eqb (r .test) 0 ≡ k → e && k ≡ false → pageMapped r b a ≡ translate r b a
+      go true true p l n = absurd (true≢false n)
+      go true false p l n = sym (rw (sym tq ∙ h, p, l))
+      go false k p l n = sym (rw (sym tq ∙ h, p))

@@ -45,7 +45,7 @@ cause-fits r a slot value h l v =
     (lt-ltb (vpnOf (a .address) * 64 + r .context) 33554432 (omega (arith, vpn-lt (a .address), context-lt r h))))
     (lt-ltb (value * 2 + bit (a .write)) 32 (omega (arith, bit-le (a .write))))
 
-value-lt : (r : Registers) (a : Access) (f : Entry) → hitValue r a f < 16
+pub value-lt : (r : Registers) (a : Access) (f : Entry) → hitValue r a f < 16
 unfolding hitValue exceptionValue
 value-lt r a f = omega (
   arith,
@@ -82,7 +82,7 @@ module _ (r : Registers) (a : Access) (h : registersFit r ≡ true) where
   count-leaves (suc zero) set f d l = hit-leaves (slotOf set (vpnOf (a .address))) f (slot-lt set _ l)
   count-leaves (suc (suc n)) set f d l = exception-leaves (r .select) 0 None (selected-lt r h) (omega arith)
 
-found-lt : (r : Registers) (b : Buffer) (a : Access) → a .draw < 4 → foundSet r b a < 4
+pub found-lt : (r : Registers) (b : Buffer) (a : Access) → a .draw < 4 → foundSet r b a < 4
 unfolding foundSet hitSet
 found-lt r b a l = lowest-lt (setHits b (invExc (r .ctrl)) (r .context) (vpnOf (a .address))) 4 (a .draw) l
 

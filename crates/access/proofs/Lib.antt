@@ -2,3 +2,6 @@ pub mod SegmentLaws
 pub mod ExceptionLaws
 pub mod AccessLaws
 pub mod Keeping
+pub mod Locations
+pub mod Values
+pub mod Plain

@@ -199,11 +199,8 @@ pub fn translate(r: Registers, buffer: &[u64], a: Access) -> Translation
         let address = linear_address(r.kbase_lo, r.kbase_hi, a.address);
         return no_exception(r, address);
     }
-    if r.enable == 0 {
-        if r.test == 0 {
-            return no_exception(r, a.address);
-        }
-        return page_mapped(r, buffer, a);
+    if (r.enable == 0) & (r.test == 0) {
+        return no_exception(r, a.address);
     }
     page_mapped(r, buffer, a)
 }

@@ -121,19 +121,21 @@ pub fn fits_at(place: u32, value: u32) -> bool
     (value as u64) < LIMITS[place as usize]
 }
 
-// No register field exceeds its bits.
+// No register field exceeds its bits. KBASE_LO and KBASE_HI have all 32.
 pub fn registers_fit(r: Registers) -> bool
     ensures { λ b. ⌜ b ≡ registersFit r ⌝ }
 {
-    let mut left: u32 = 11;
-    while 0 < left {
-        left -= 1;
-        let value = field(r, left);
-        if !fits_at(left, value) {
-            return false;
-        }
-    }
-    true
+    let mut fits = true;
+    fits = (r.kseg < 65536) & fits;
+    fits = (r.ctrl < 8) & fits;
+    fits = (r.enable < 2) & fits;
+    fits = (r.context < 64) & fits;
+    fits = (r.select < 64) & fits;
+    fits = (r.tlb_hi < 33554432) & fits;
+    fits = (r.tlb_lo < 8388608) & fits;
+    fits = (r.test < 2) & fits;
+    fits = (r.cause < 32) & fits;
+    fits
 }
 
 pub fn zero_registers() -> Registers

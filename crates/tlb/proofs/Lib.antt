@@ -1,2 +1,3 @@
 pub mod HitLaws
 pub mod Loads
+pub mod Locations
