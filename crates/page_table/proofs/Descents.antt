@@ -1,103 +1,114 @@
 -- The ways of the code through a walk, from what its tests and calls gave. Assumes nothing.
-use Prim.Native.Nat.{ℕ, zero, suc, _+_, _-_, _*_, _/_, _%_, _≤_, _<_}
-use mathlib.Core.Path.{_≡_, refl, sym, ap, _∙_, subst}
-use mathlib.Core.Bool.{Bool, true, false}
+use Prim.Native.Nat.{ℕ, zero, suc, _+_, _-_, _*_, _≤_, _<_}
+use mathlib.Core.Path.{_≡_, refl, sym, ap, _∙_}
+use mathlib.Core.Bool.{Bool, true, false, not}
 use mathlib.Core.List.{List, [], _∷_}
 use mathlib.Core.Logic.{⊎-elim}
 use lib.ListN.{length, getD}
 use native.Mathlib.Numerals.{sub-one}
 use native.Mathlib.Omega.{arith}
-use borrow.Author.Tests.{eq-eqb, ne-eqb}
+use borrow.Author.Tests.{not-true, not-false}
 use types.Run.{OneOf}
 use denote.Enum.Declared.{tagOf}
+use Rattle.runs.proofs.Bools.{both}
 use Rattle.page_table.proofs.Walk.{the-type}
-use Rattle.page_table.specs.Words.{present}
-use Rattle.page_table.specs.Stretches.{stretchSize, indexIn, stretch, broken}
-use Rattle.page_table.specs.Walk.{leafAt, stopAt, indexBelow, descend, walkTree, globalFirst, walkPage}
+use Rattle.page_table.specs.Words.{present, number}
+use Rattle.page_table.specs.Stretches.{stretchSize, indexIn, stretch}
+use Rattle.page_table.specs.Walk.{stopAt, indexBelow, walkTree, globalFirst, walkPage}
+use Rattle.page_table.specs.Reads.{leadsOn}
+use Rattle.page_table.specs.Ends.{endOf, decided}
 use Rattle.page_table.specs.declared.Stop.{Stop}
 use Rattle.page_table.specs.declared.Walk.{Walk}
 use Rattle.page_table.specs.declared.Walk.the-variants.{Leaf, Absent, Broken}
-use Rattle.page_table.proofs.Stretches.{number-is, size-le, index-lt, stretch-length, stretch-at, stretch-room, sound-inside}
+use Rattle.page_table.proofs.Stretches.{size-le, index-lt, stretch-length, stretch-at, stretch-room, sound-inside}
 
--- the four ways at a word: absent, a leaf, broken, on to the next word
-module _ (words : List ℕ) (vpn : ℕ) (global : Bool) where
-  pub way-absent : (levels at : ℕ) → present (getD words at 0) ≡ false → Absent (stopAt global levels) ≡ descend words vpn global levels at
-  unfolding descend
-  way-absent zero at off = sym (rw off)
-  way-absent (suc n) at off = sym (rw off)
+-- the stretch below a word, as the calls gave it: its bounds, and the word's index in it
+pub size-bounds : (levels size : ℕ) → size ≡ stretchSize levels → (1 ≤ size) × (size ≤ 1024)
+size-bounds levels size sized = rw sized (size-le levels)
 
-  pub way-leaf : (levels at : ℕ) → present (getD words at 0) ≡ true → levels ≡ 0
-      → Leaf (leafAt words global at) ≡ descend words vpn global levels at
-  unfolding descend
-  way-leaf levels at on e = sym (rw e (rw on))
+pub room : (levels size n vpn i word : ℕ) → vpn < 524288 → size ≡ stretchSize levels → n ≡ number word → i ≡ indexIn levels vpn
+    → size * n + i ≤ 67108863
+room levels size n vpn i word page sized numbered placed =
+    let bounds = size-bounds levels size sized in
+    let below : i < size = rw (placed, sized) (index-lt levels vpn page) in
+    omega (arith, below, bounds, stretch-room size n word (bounds .1) numbered)
 
-  pub way-broken : (levels at : ℕ) → present (getD words at 0) ≡ true → (levels ≡ 0 → ⊥)
-      → broken (length words) (stretchSize (levels - 1)) (getD words at 0) ≡ true
-      → Broken (stopAt global levels) ≡ descend words vpn global levels at
-  unfolding descend
-  way-broken zero at on more b = absurd (more refl)
-  way-broken (suc n) at on more b = sym (rw (on, rw (sub-one (suc n)) at b))
+pub index-in-lt : (levels vpn i : ℕ) → vpn < 524288 → i ≡ indexIn levels vpn → i < 1024
+index-in-lt levels vpn i page placed = omega (arith, placed, index-lt levels vpn page, size-le levels)
 
-  pub way-on : (levels at : ℕ) → present (getD words at 0) ≡ true → (levels ≡ 0 → ⊥)
-      → broken (length words) (stretchSize (levels - 1)) (getD words at 0) ≡ false
-      → descend words vpn global (levels - 1) (indexBelow vpn (levels - 1) (getD words at 0)) ≡ descend words vpn global levels at
-  unfolding descend
-  way-on zero at on more b = absurd (more refl)
-  way-on (suc n) at on more b = rw (sub-one (suc n)) (sym (rw (on, rw (sub-one (suc n)) at b)))
+-- what a word leads on to is inside the run
+pub leads-inside : (length levels w : ℕ) → leadsOn length levels w ≡ true → stretchSize levels * number w + stretchSize levels ≤ length
+unfolding leadsOn
+leads-inside length levels w on = sound-inside length (stretchSize levels) w (not-true _ (both (present w) _ on .1))
 
--- the same in the code's words: `word` is the run's at an index, and what the calls gave is by their contracts
-module _ (words : List ℕ) (vpn : ℕ) (global : Bool) (levels word at : ℕ) (stands : word ≡ getD words at 0) where
-  seen : (b : Bool) → present word ≡ b → present (getD words at 0) ≡ b
-  seen b e = subst (λ (w : ℕ). present w ≡ b) stands e
+pub leads-below : (length vpn levels w : ℕ) → vpn < 524288 → leadsOn length levels w ≡ true → indexBelow vpn levels w < length
+unfolding indexBelow
+leads-below length vpn levels w page on = omega (arith, index-lt levels vpn page, leads-inside length levels w on)
 
-  pub gave-absent : (word / 2147483648 % 2 ≡ 1 → ⊥) → Absent (stopAt global levels) ≡ descend words vpn global levels at
-  unfolding present
-  gave-absent off = way-absent words vpn global levels at (seen false (ne-eqb (word / 2147483648 % 2) 1 off))
+pub lent-inside : (length levels w size n : ℕ) → leadsOn length levels w ≡ true → size ≡ stretchSize levels → n ≡ number w
+    → size * n + size ≤ length
+lent-inside length levels w size n on sized numbered = rw (sized, numbered) (leads-inside length levels w on)
 
-  module _ (set : word / 2147483648 % 2 ≡ 1) where
-    on : present (getD words at 0) ≡ true
-    unfolding present
-    on = seen true (eq-eqb (word / 2147483648 % 2) 1 set)
+-- the next word, in the stretch that was lent
+module _ (words : List ℕ) (vpn levels word : ℕ) (page : vpn < 524288) (on : leadsOn (length words) levels word ≡ true)
+    (part : List ℕ) (lent : part ≡ stretch words (stretchSize levels) (number word)) (i : ℕ) (placed : i ≡ indexIn levels vpn) where
+  pub next-inside : i < length part
+  next-inside =
+      rw (lent, stretch-length words (stretchSize levels) (number word) (leads-inside (length words) levels word on), placed)
+      (index-lt levels vpn page)
 
-    pub gave-leaf : levels ≡ 0 → Leaf (record { global = global; word = word; index = at }) ≡ descend words vpn global levels at
-    unfolding leafAt
-    gave-leaf e = rw stands (way-leaf words vpn global levels at on e)
+  pub next-stands : (index : ℕ) → index ≡ indexBelow vpn levels word → getD part i 0 ≡ getD words index 0
+  unfolding indexBelow
+  next-stands index e =
+      rw (lent, e, placed) (stretch-at words (stretchSize levels) (number word) (indexIn levels vpn) (index-lt levels vpn page))
 
-    module _ (more : levels ≡ 0 → ⊥) (size : ℕ) (sized : size ≡ stretchSize (levels - 1))
-        (b : Bool) (judged : b ≡ broken (length words) size word) where
-      verdict : (d : Bool) → b ≡ d → broken (length words) (stretchSize (levels - 1)) (getD words at 0) ≡ d
-      verdict d e = rw (← sized, ← stands) (sym judged ∙ e)
+-- the three ways at a word: no level below, no way on, on to the next word
+module _ (words : List ℕ) (vpn levels word at : ℕ) where
+  pub end-leaf : levels ≡ 0 → 4 * at ≡ endOf words vpn levels at
+  unfolding endOf
+  end-leaf e = rw e
 
-      pub gave-broken : b ≡ true → Broken (stopAt global levels) ≡ descend words vpn global levels at
-      gave-broken e = way-broken words vpn global levels at on more (verdict true e)
+  module _ (more : levels ≡ 0 → ⊥) (stands : word ≡ getD words at 0)
+      (b : Bool) (judged : b ≡ leadsOn (length words) (levels - 1) word) where
+    pub end-stuck : not b ≡ true → 4 * at + levels ≡ endOf words vpn levels at
+    unfolding endOf
+    end-stuck h = go levels more (sym judged ∙ not-true b h)
+      where
+        go : (l : ℕ) → (l ≡ 0 → ⊥) → leadsOn (length words) (l - 1) word ≡ false → 4 * at + l ≡ endOf words vpn l at
+        go zero ne off = absurd (ne refl)
+        go (suc n) ne off = sym (rw (← stands, rw (sub-one (suc n)) at off))
 
-      pub gave-on : b ≡ false → (i : ℕ) → i ≡ indexIn (levels - 1) vpn
-          → (r : Walk) → r ≡ descend words vpn global (levels - 1) (size * (word % 65536) + i) → r ≡ descend words vpn global levels at
-      unfolding indexBelow
-      gave-on e i placed r given =
-          given
-          ∙ rw (sized, placed, number-is word, stands) (way-on words vpn global levels at on more (verdict false e))
+    pub end-on : not b ≡ false → (r next : ℕ) → next ≡ indexBelow vpn (levels - 1) word → r ≡ endOf words vpn (levels - 1) next
+        → r ≡ endOf words vpn levels at
+    unfolding endOf
+    end-on h r next e given = given ∙ go levels more (sym judged ∙ not-false b h) e
+      where
+        go : (l : ℕ) → (l ≡ 0 → ⊥) → leadsOn (length words) (l - 1) word ≡ true → next ≡ indexBelow vpn (l - 1) word
+            → endOf words vpn (l - 1) next ≡ endOf words vpn l at
+        go zero ne on e = absurd (ne refl)
+        go (suc n) ne on e = rw e (rw (sub-one (suc n)) (sym (rw (← stands, rw (sub-one (suc n)) at on))))
 
--- the stretch below a word, as the calls gave it: its bounds, and the next word in it
-pub size-bounds : (below size : ℕ) → size ≡ stretchSize below → (1 ≤ size) × (size ≤ 1024)
-size-bounds below size sized = rw sized (size-le below)
+-- what a word says at which a walk ends
+module _ (global : Bool) (levels word at : ℕ) (b : Bool) (seen : b ≡ present word) where
+  pub says-absent : not b ≡ true → Absent (stopAt global levels) ≡ decided global levels word at
+  unfolding decided
+  says-absent h = go levels (sym seen ∙ not-true b h)
+    where
+      go : (l : ℕ) → present word ≡ false → Absent (stopAt global l) ≡ decided global l word at
+      go zero off = sym (rw off)
+      go (suc n) off = sym (rw off)
 
-pub gave-inside : (length size word : ℕ) (b : Bool) → b ≡ broken length size word → b ≡ false → size * (word % 65536) + size ≤ length
-gave-inside length size word b judged sound = rw (number-is word) (sound-inside length size word (sym judged ∙ sound))
+  pub says-leaf : not b ≡ false → levels ≡ 0 → Leaf (record { global = global; word = word; index = at }) ≡ decided global levels word at
+  unfolding decided
+  says-leaf h e = sym (rw (e, sym seen ∙ not-false b h))
 
-module _ (below size vpn i : ℕ) (page : vpn < 524288) (sized : size ≡ stretchSize below) (placed : i ≡ indexIn below vpn) where
-  index-bound : i < size
-  index-bound = rw (placed, sized) (index-lt below vpn page)
-
-  pub room : (word : ℕ) → size * (word % 65536) + i ≤ 67108863
-  room word = omega (arith, index-bound, size-bounds below size sized, stretch-room size word (size-bounds below size sized .1))
-
-  module _ (words part : List ℕ) (n : ℕ) (lent : part ≡ stretch words size n) where
-    pub next-inside : size * n + size ≤ length words → i < length part
-    next-inside inside = rw (lent, stretch-length words size n inside) index-bound
-
-    pub next-stands : getD part i 0 ≡ getD words (size * n + i) 0
-    next-stands = rw lent (stretch-at words size n i index-bound)
+  pub says-broken : not b ≡ false → (levels ≡ 0 → ⊥) → Broken (stopAt global levels) ≡ decided global levels word at
+  unfolding decided
+  says-broken h more = go levels more (sym seen ∙ not-false b h)
+    where
+      go : (l : ℕ) → (l ≡ 0 → ⊥) → present word ≡ true → Broken (stopAt global l) ≡ decided global l word at
+      go zero ne on = absurd (ne refl)
+      go (suc n) ne on = sym (rw on)
 
 -- both trees: the `else` of the code knows of the first answer that its case is not absent
 not-absent : (x own : Walk) → OneOf (0 ∷ 2 ∷ []) (tagOf the-type x) → x ≡ globalFirst x own

@@ -2,3 +2,4 @@ pub mod Stretches
 pub mod Descents
 pub mod Walks
 pub mod Local
+pub mod Ends

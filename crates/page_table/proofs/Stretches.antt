@@ -69,8 +69,9 @@ unfolding stretch
 stretch-at words size n i h = getD-take size (drop (size * n) words) i 0 h ∙ getD-drop (size * n) words i 0
 
 -- no stretch that a word can name starts past 2 ^ 26 words
-pub stretch-room : (size w : ℕ) → size ≤ 1024 → size * (w % 65536) ≤ 67107840
-stretch-room size w h = let n : w % 65536 ≤ 65535 = omega arith in mul-le-mul h n
+pub stretch-room : (size n w : ℕ) → size ≤ 1024 → n ≡ number w → size * n ≤ 67107840
+unfolding number
+stretch-room size n w h e = let l : n ≤ 65535 = omega arith in mul-le-mul h l
 
 or-false : (a b : Bool) → a || b ≡ false → (a ≡ false) × (b ≡ false)
 or-false true b h = (h, cc)
@@ -89,7 +90,7 @@ past-end a size length h = go (leb (a + size) length) refl
     go true e = let l = leb-true (a + size) length e in lt-leb length (a + (size - 1)) (omega arith)
     go false e = let l = leb-false (a + size) length e in le-leb length (a + (size - 1)) (omega arith)
 
-pub broken-last : (length size w : ℕ) → 1 ≤ size
-    → not (eqb (w / 65536 % 32768) 0) || eqb (w % 65536) 0 || leb length (size * (w % 65536) + (size - 1)) ≡ broken length size w
+pub broken-last : (length size w n : ℕ) → 1 ≤ size → n ≡ number w
+    → not (eqb (w / 65536 % 32768) 0) || eqb n 0 || leb length (size * n + (size - 1)) ≡ broken length size w
 unfolding broken inside reserved
-broken-last length size w h = rw (number-is, past-end (size * number w) size length h)
+broken-last length size w n h e = rw (e, past-end (size * number w) size length h)

@@ -3,3 +3,4 @@ pub mod Stretches
 pub mod Walk
 pub mod Faults
 pub mod Reads
+pub mod Ends

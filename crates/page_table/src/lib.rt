@@ -1,11 +1,14 @@
 // The walk of the page tables, a lent run of table words (course format).
+ghost use mathlib.Core.Bool.{true};
 ghost use mathlib.Core.Path.{_≡_};
-ghost use Prim.Native.Nat.{_+_, _*_, _≤_, _<_};
+ghost use Prim.Native.Nat.{_≤_, _<_};
 ghost use lib.ListN.{length, getD};
+ghost use Rattle.page_table.specs.Words.{present, number};
 ghost use Rattle.page_table.specs.Stretches as stretches;
 ghost use Rattle.page_table.specs.Stretches.{stretchSize, indexIn, broken, tablesFit};
-ghost use Rattle.page_table.specs.Walk as walk;
-ghost use Rattle.page_table.specs.Walk.{walkTree, walkPage};
+ghost use Rattle.page_table.specs.Walk.{indexBelow, walkTree, walkPage};
+ghost use Rattle.page_table.specs.Reads.{leadsOn};
+ghost use Rattle.page_table.specs.Ends.{endOf, decided, ending, EndFits};
 ghost use Rattle.page_table.specs.Faults.{walkFault};
 
 // A leaf: whether it stands in the global tree, its word, and the word's index in the run.
@@ -53,33 +56,85 @@ fn index_in(levels: u32, vpn: u32) -> usize
     }
 }
 
+fn is_present(word: u32) -> bool
+    ensures { λ r. ⌜ r ≡ present word ⌝ }
+{
+    (word >> 31) % 2 == 1
+}
+
+// The number of the directory or table that a root or directory word names.
+fn number_of(word: u32) -> usize
+    ensures { λ r. ⌜ r ≡ number word ⌝ }
+{
+    (word % 65536) as usize
+}
+
 // Whether a present root or directory word is broken: reserved bits, number 0, or a stretch that is not wholly inside the run.
 fn is_broken(length: usize, size: usize, word: u32) -> bool
     requires { ⌜ (1 ≤ size) × (size ≤ 1024) ⌝ }
     ensures { λ r. ⌜ r ≡ broken length size word ⌝ }
 {
-    let number = (word % 65536) as usize;
+    let number = number_of(word);
     let last = size * number + (size - 1);
     ((word >> 16) % 32768 != 0) | (number == 0) | (length <= last)
 }
 
-// The directory or table with a number: that very stretch of the lent words.
-fn stretch<'a>(words: &'a [u32], size: usize, number: usize) -> &'a [u32]
-    requires { ⌜ size * number + size ≤ length (now words) ⌝ }
-    ensures { λ r. ⌜ now r ≡ stretches.stretch (now (words .entry)) size number ⌝ }
+// Whether a word leads on to the stretch that it names, which has so many levels below it, in a run of a length.
+pub fn leads_on(length: usize, levels: u32, word: u32) -> bool
+    ensures { λ r. ⌜ r ≡ leadsOn length levels word ⌝ }
 {
-    let from = size * number;
+    let size = stretch_size(levels);
+    is_present(word) & !is_broken(length, size, word)
+}
+
+// The directory or table that a word leads on to: that very stretch of the lent words.
+fn stretch<'a>(words: &'a [u32], levels: u32, word: u32) -> &'a [u32]
+    requires { ⌜ leadsOn (length (now words)) levels word ≡ true ⌝ }
+    ensures { λ r. ⌜ now r ≡ stretches.stretch (now (words .entry)) (stretchSize levels) (number word) ⌝ }
+{
+    let size = stretch_size(levels);
+    let from = size * number_of(word);
     let to = from + size;
     &words[from..to]
 }
 
-// The walk from a word, which stands at an index of the run and has so many levels below it.
-fn descend(words: &[u32], vpn: u32, global: bool, levels: u32, word: u32, index: u32) -> Walk
-    requires { ⌜ (vpn < 524288) × (levels ≤ 2) × (word ≡ getD (now words) index 0) ⌝ }
-    ensures { λ r. ⌜ r ≡ walk.descend (now (words .entry)) vpn global levels index ⌝ }
+// The index in the run of a page's word in the stretch that a word names.
+pub fn index_below(vpn: u32, levels: u32, word: u32) -> u32
+    requires { ⌜ vpn < 524288 ⌝ }
+    ensures { λ r. ⌜ r ≡ indexBelow vpn levels word ⌝ }
+{
+    let size = stretch_size(levels);
+    (size * number_of(word) + index_in(levels, vpn)) as u32
+}
+
+// The walk from a word, which stands at an index of the run and has so many levels below it: where it ends, as four times the index of
+// the word that decides, and the levels below that word. The run is lent behind a reference, which each level hands on as it is: that
+// and a number as the answer let the compiler make a loop of the calls.
+fn descend(words: &&[u32], vpn: u32, levels: u32, word: u32, index: u32) -> u64
+    requires { ⌜ (vpn < 524288) × (levels ≤ 2) × (word ≡ getD (now (now words)) index 0) ⌝ }
+    ensures { λ r. ⌜ r ≡ endOf (now (now (words .entry))) vpn levels index ⌝ }
+{
+    if levels == 0 {
+        return 4 * index as u64;
+    }
+    let run = *words;
+    let below = levels - 1;
+    if !leads_on(run.len(), below, word) {
+        return 4 * index as u64 + levels as u64;
+    }
+    let part = stretch(run, below, word);
+    let at = index_in(below, vpn);
+    let next = part[at];
+    descend(words, vpn, below, next, index_below(vpn, below, word))
+}
+
+// What a word says to a walk that ends at it: at an index of the run, with so many levels below it.
+pub fn decided(global: bool, levels: u32, word: u32, index: u32) -> Walk
+    requires { ⌜ levels ≤ 2 ⌝ }
+    ensures { λ r. ⌜ r ≡ decided global levels word index ⌝ }
 {
     let level = 3 - levels;
-    if (word >> 31) % 2 != 1 {
+    if !is_present(word) {
         return Walk::Absent(Stop { global, level });
     }
     if levels == 0 {
@@ -89,17 +144,17 @@ fn descend(words: &[u32], vpn: u32, global: bool, levels: u32, word: u32, index:
             index,
         });
     }
-    let below = levels - 1;
-    let size = stretch_size(below);
-    if is_broken(words.len(), size, word) {
-        return Walk::Broken(Stop { global, level });
-    }
-    let number = (word % 65536) as usize;
-    let part = stretch(words, size, number);
-    let at = index_in(below, vpn);
-    let next = part[at];
-    let next_index = (size * number + at) as u32;
-    descend(words, vpn, global, below, next, next_index)
+    Walk::Broken(Stop { global, level })
+}
+
+// The answer of a walk, by where it ended.
+fn ended(words: &[u32], global: bool, end: u64) -> Walk
+    requires { ⌜ EndFits (now words) end ⌝ }
+    ensures { λ r. ⌜ r ≡ ending (now (words .entry)) global end ⌝ }
+{
+    let index = (end / 4) as u32;
+    let word = words[index as usize];
+    decided(global, (end % 4) as u32, word, index)
 }
 
 // The walk of one tree, from its root.
@@ -108,7 +163,8 @@ fn walk_tree(words: &[u32], vpn: u32, global: bool, root: u32) -> Walk
     ensures { λ r. ⌜ r ≡ walkTree (now (words .entry)) vpn global root ⌝ }
 {
     let word = words[root as usize];
-    descend(words, vpn, global, 2, word, root)
+    let end = descend(&words, vpn, 2, word, root);
+    ended(words, global, end)
 }
 
 // The walk of a page under an identification: the global tree first, and the own tree where that has nothing.

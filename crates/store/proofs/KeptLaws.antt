@@ -2,21 +2,22 @@
 use Prim.Native.Nat.{ℕ, _+_, _*_, _/_, _%_, _^_, _≤_, _<_}
 use mathlib.Core.Path.{_≡_, refl, sym, ap, _∙_, subst}
 use mathlib.Core.Logic.{⊎-elim}
-use mathlib.Core.Bool.{Bool, true, false, cond, not}
+use mathlib.Core.Bool.{Bool, true, false, not}
 use mathlib.Core.List.{List, [], _∷_}
 use native.Mathlib.Numerals.{add-one}
 use native.Mathlib.Omega.{arith}
 use lib.Dec.{eqb}
 use lib.ListN.{length}
-use borrow.Author.Tests.{eq-eqb, ne-eqb, le-leb, lt-leb, not-true, not-false}
+use borrow.Author.Tests.{eq-eqb, ne-eqb, le-leb, lt-leb}
 use types.Run.{OneOf}
 use denote.Enum.Declared.{tagOf}
 use Rattle.runs.specs.Bits.{bit}
 use Rattle.runs.specs.Counts.{count}
-use Rattle.runs.proofs.Bits.{bits-low}
+use Rattle.runs.proofs.Bits.{bits-low, bit-le}
 use Rattle.runs.proofs.Counts.{count-le}
 use Rattle.entry.specs.Address.{vpn15Of, setOf, vpnAt}
 use Rattle.entry.specs.Entry.{unpack, pack, EntryFits}
+use Rattle.entry.specs.declared.Entry.{Entry}
 use Rattle.entry.specs.Empty.{emptyFields, emptyEntry}
 use Rattle.entry.proofs.Fields.{empty-fits, unpack-fits}
 use Rattle.entry.proofs.Same.{same-number, same-rest, vpn-at-lt}
@@ -31,7 +32,11 @@ use Rattle.slots.specs.Buffer.Buffer.{Wide}
 use Rattle.slots.proofs.Slots.{fits-length, slot-lt}
 use Rattle.store.specs.Leaf.{leafEntry}
 use Rattle.store.specs.Sweep.{isEmpty, agreesWithLeaf, agreesWithTables, kept, keptAt, sweptSlot, sweptFirst, swept, emptied}
-use Rattle.store.specs.Sweep.{SweepGives}
+use Rattle.store.specs.Sweep.{SweepGives, settled, goes}
+use Rattle.store.specs.Claims.{granted, PageOf, Paged, Claims}
+use Rattle.store.specs.declared.Claim.{Claim}
+use Rattle.store.specs.declared.Claim.the-variants.{Nothing, Void, Of}
+use Rattle.store.specs.declared.Page.{Page}
 use Rattle.store.proofs.Sweeps.{first-fits, kept-not-reached}
 
 -- the fields that the code takes from a leaf's word
@@ -58,54 +63,78 @@ pub page-lt : (e slot vpn15 : ℕ) → vpn15 ≡ (unpack e) .vpn15 → 16 * vpn1
 unfolding vpnAt
 page-lt e slot vpn15 q = vpn-at-lt slot vpn15 (subst (λ (v : ℕ). v < 2 ^ 15) (sym q) (unpack-fits e .vpn15-fits))
 
-leaf-vpn15 : (e slot id vpn15 : ℕ) (f : Found) → vpn15 ≡ (unpack e) .vpn15
-    → (unpack e) .vpn15 ≡ (leafEntry id (16 * vpn15 + slot % 16) f) .vpn15
-unfolding leafEntry vpn15Of
-leaf-vpn15 e slot id vpn15 f q = sym q ∙ (let k : vpn15 ≡ (16 * vpn15 + slot % 16) / 16 = omega arith in k)
+-- an entry against the walk of its page
+module _ (e : ℕ) (page : Page) (p : PageOf (unpack e) page) where
+  pub agrees-none : (found : Walk) → OneOf (1 ∷ 2 ∷ []) (tagOf the-type found) → false ≡ agreesWithLeaf found (page .vpn) (unpack e)
+  unfolding agreesWithLeaf
+  agrees-none (Leaf f) k = absurd (⊎-elim (λ y. omega arith) (λ y. omega arith) k)
+  agrees-none (Absent s) k = refl
+  agrees-none (Broken s) k = refl
 
-module _ (words : List ℕ) (slot e id : ℕ) (iq : id ≡ (unpack e) .«page_id») where
-  pub agrees-not : 62 < id → false ≡ agreesWithTables words slot (unpack e)
-  unfolding agreesWithTables
-  agrees-not l = sym (rw (← iq, lt-leb id 62 l))
-
-  module _ (vpn15 : ℕ) (vq : vpn15 ≡ (unpack e) .vpn15) (l : id ≤ 62) (found : Walk)
-      (wq : found ≡ walkPage words id (16 * vpn15 + slot % 16))
+  pub agrees-leaf : (found : Walk) (leaf : Found) (n : ℕ) → found ≡ Leaf leaf → e < 2 ^ 44
+      → n ≡ pack (leafEntry (page .id) (page .vpn) leaf)
+      → eqb e n ≡ agreesWithLeaf found (page .vpn) (unpack e)
+  unfolding agreesWithLeaf leafEntry
+  agrees-leaf found leaf n fq h nq =
+      ap (eqb e) nq
+      ∙ same-number e own h (leaf-fits (page .id) (page .vpn) leaf (omega (arith, p .id-known)) (p .vpn-fits))
+      ∙ same-rest (unpack e) own (p .vpn15-is) (sym (p .id-is))
+      ∙ rw (fq, ← p .id-is)
     where
-      agrees-by-walk : agreesWithTables words slot (unpack e) ≡ agreesWithLeaf found (16 * vpn15 + slot % 16) (unpack e)
-      unfolding agreesWithTables vpnAt
-      agrees-by-walk = rw (← iq, ← vq, le-leb id 62 l, ← wq)
+      own : Entry
+      own = leafEntry (page .id) (page .vpn) leaf
 
-      pub agrees-none : OneOf (1 ∷ 2 ∷ []) (tagOf the-type found) → false ≡ agreesWithTables words slot (unpack e)
-      unfolding agreesWithLeaf
-      agrees-none k = sym (agrees-by-walk ∙ no-leaf found k)
-        where
-          no-leaf : (x : Walk) → OneOf (1 ∷ 2 ∷ []) (tagOf the-type x) → agreesWithLeaf x (16 * vpn15 + slot % 16) (unpack e) ≡ false
-          no-leaf (Leaf f) m = absurd (⊎-elim (λ y. omega arith) (λ y. omega arith) m)
-          no-leaf (Absent s) m = refl
-          no-leaf (Broken s) m = refl
-
-      pub agrees-leaf : (leaf : Found) (n : ℕ) → found ≡ Leaf leaf → e < 2 ^ 44 → n ≡ pack (leafEntry id (16 * vpn15 + slot % 16) leaf)
-          → eqb e n ≡ agreesWithTables words slot (unpack e)
-      unfolding agreesWithLeaf leafEntry
-      agrees-leaf leaf n fq h nq =
-          ap (eqb e) nq
-          ∙ same-number e (leafEntry id (16 * vpn15 + slot % 16) leaf) h (leaf-fits id _ leaf (omega arith) (page-lt e slot vpn15 vq))
-          ∙ same-rest (unpack e) (leafEntry id (16 * vpn15 + slot % 16) leaf) (leaf-vpn15 e slot id vpn15 leaf vq) (sym iq)
-          ∙ sym (agrees-by-walk ∙ rw (fq, ← iq))
-
--- a slot's empty entry by its number
-module _ (words : List ℕ) (slot e n : ℕ) (l : slot < 64) (h : e < 2 ^ 44) (nq : n ≡ emptyEntry (slot / 16)) where
+-- the three claims
+module _ (slot e n : ℕ) (l : slot < 64) (h : e < 2 ^ 44) (nq : n ≡ emptyEntry (slot / 16)) where
   empty-test : eqb e n ≡ isEmpty slot (unpack e)
   unfolding isEmpty emptyEntry setOf
   empty-test = ap (eqb e) nq ∙ same-number e (emptyFields (slot / 16)) h (empty-fits (slot / 16) (omega arith))
 
-  pub kept-empty : e ≡ n → true ≡ kept words slot (unpack e)
-  unfolding kept
-  kept-empty q = sym (rw (sym empty-test ∙ eq-eqb e n q))
+  pub claims-nothing : e ≡ n → Claims slot (unpack e) Nothing
+  unfolding granted Paged kept
+  claims-nothing q = record { same-verdict = λ words. sym (rw (sym empty-test ∙ eq-eqb e n q)); page-is = tt }
 
-  pub kept-agrees : (t : Bool) → (e ≡ n → ⊥) → t ≡ agreesWithTables words slot (unpack e) → t ≡ kept words slot (unpack e)
-  unfolding kept
-  kept-agrees t d q = q ∙ sym (rw (sym empty-test ∙ ne-eqb e n d))
+  module _ (d : e ≡ n → ⊥) (id : ℕ) (iq : id ≡ (unpack e) .«page_id») where
+    by-tables : (words : List ℕ) → agreesWithTables words slot (unpack e) ≡ kept words slot (unpack e)
+    unfolding kept
+    by-tables words = sym (rw (sym empty-test ∙ ne-eqb e n d))
+
+    pub claims-void : 62 < id → Claims slot (unpack e) Void
+    unfolding granted Paged agreesWithTables
+    claims-void m = record { same-verdict = λ words. sym (rw (← iq, lt-leb id 62 m)) ∙ by-tables words; page-is = tt }
+
+    pub claims-page : id ≤ 62 → (vpn15 : ℕ) → vpn15 ≡ (unpack e) .vpn15
+        → Claims slot (unpack e) (Of (record { id = id; vpn = 16 * vpn15 + slot % 16 }))
+    unfolding granted Paged agreesWithTables vpnAt vpn15Of
+    claims-page m vpn15 vq = record {
+      same-verdict = λ words. sym (rw (← iq, ← vq, le-leb id 62 m)) ∙ by-tables words;
+      page-is = record {
+        id-is = iq;
+        id-known = m;
+        vpn15-is = sym vq ∙ (let k : vpn15 ≡ (16 * vpn15 + slot % 16) / 16 = omega arith in k);
+        vpn-fits = page-lt e slot vpn15 vq;
+      };
+    }
+
+-- a slot by its entry's claim
+module _ (slot : ℕ) (f : Entry) (c : Claim) (q : Claims slot f c) where
+  pub kept-nothing : (words : List ℕ) → c ≡ Nothing → true ≡ kept words slot f
+  unfolding granted
+  kept-nothing words e = ap (granted words f) (sym e) ∙ q .same-verdict words
+
+  pub kept-void : (words : List ℕ) → c ≡ Void → false ≡ kept words slot f
+  unfolding granted
+  kept-void words e = ap (granted words f) (sym e) ∙ q .same-verdict words
+
+  module _ (page : Page) (e : c ≡ Of page) where
+    pub claimed-page : PageOf f page
+    unfolding Paged
+    claimed-page = subst (Paged f) e (q .page-is)
+
+    pub kept-page : (words : List ℕ) (found : Walk) (t : Bool) → found ≡ walkPage words (page .id) (page .vpn)
+        → t ≡ agreesWithLeaf found (page .vpn) f → t ≡ kept words slot f
+    unfolding granted
+    kept-page words found t wq tq = tq ∙ rw wq (ap (granted words f) (sym e) ∙ q .same-verdict words)
 
 pub entry-lt : (b : Buffer) (slot e : ℕ) → e ≡ slotAt b slot → e < 2 ^ 44
 entry-lt b slot e q = subst (λ (n : ℕ). n < 2 ^ 44) (sym q) (slot-lt b slot)
@@ -147,25 +176,31 @@ module _ (words : List ℕ) (b now : Buffer) (number slot : ℕ) (s : Sweeping w
     old-kept : t ≡ keptAt words b slot
     old-kept = now-kept ∙ ap (λ (x : Buffer). keptAt words x slot) (s .swept-so-far) ∙ kept-not-reached words slot slot b (omega arith)
 
-    next : (after : Buffer) (more : ℕ) → after ≡ cond t now (withSlot now slot (emptyEntry (setOf slot))) → more ≡ number + bit (not t)
-        → Sweeping words b after more (slot + 1)
-    unfolding sweptFirst sweptSlot count
-    next after more aq mq = rw (add-one slot) (record {
+    pub sweep-turn : (after : Buffer) (n : ℕ) → after ≡ settled t slot now → n ≡ goes t → Sweeping words b after (number + n) (slot + 1)
+    unfolding sweptFirst sweptSlot count goes
+    sweep-turn after n aq nq = rw (add-one slot) (record {
       in-range = l;
       swept-so-far =
           aq
-          ∙ ap (λ (k : Bool). cond k now (withSlot now slot (emptyEntry (setOf slot)))) now-kept
+          ∙ ap (λ (k : Bool). settled k slot now) now-kept
           ∙ ap (sweptSlot words slot) (s .swept-so-far);
       number-so-far =
-          mq
-          ∙ ap (λ (n : ℕ). n + bit (not t)) (s .number-so-far)
+          ap (λ (m : ℕ). number + m) nq
+          ∙ ap (λ (m : ℕ). m + bit (not t)) (s .number-so-far)
           ∙ ap (λ (k : Bool). count (λ j. not (keptAt words b j)) slot + bit (not k)) old-kept;
     })
 
-    pub turn-kept : not t ≡ false → Sweeping words b now number (slot + 1)
-    turn-kept h = next now number (rw (not-false t h) refl) (rw h (omega arith))
+-- a slot that is settled
+pub goes-le : (keep : Bool) → goes keep ≤ 1
+unfolding goes
+goes-le keep = bit-le (not keep)
 
-    pub turn-emptied : (empty : ℕ) (after : Buffer) → not t ≡ true → empty ≡ emptyEntry (slot / 16) → after ≡ withSlot now slot empty
-        → Sweeping words b after (number + 1) (slot + 1)
-    unfolding setOf
-    turn-emptied empty after h xq aq = next after (number + 1) (aq ∙ rw (xq, not-true t h) refl) (rw h refl)
+module _ (keep : Bool) (slot : ℕ) (b : Buffer) where
+  pub stays : keep ≡ true → (0 ≡ goes keep) × (b ≡ settled keep slot b)
+  unfolding goes settled
+  stays e = (sym (rw e), sym (rw e))
+
+  pub empties : keep ≡ false → (empty : ℕ) (after : Buffer) → empty ≡ emptyEntry (slot / 16) → after ≡ withSlot b slot empty
+      → (1 ≡ goes keep) × (after ≡ settled keep slot b)
+  unfolding goes settled setOf
+  empties e empty after xq aq = (sym (rw e), aq ∙ rw (xq, e))

@@ -12,11 +12,11 @@ use Rattle.entry.specs.Empty.{emptyEntry}
 use Rattle.entry.proofs.Fields.{empty-lt}
 use Rattle.slots.specs.Buffer.{Buffer, bufferFits, slotAt, withSlot}
 use Rattle.slots.proofs.Slots.{at-same, at-other, fits-put}
-use Rattle.store.specs.Sweep.{kept, keptAt, sweptSlot, sweptFirst, swept}
+use Rattle.store.specs.Sweep.{kept, keptAt, settled, sweptSlot, sweptFirst, swept}
 
 module _ (words : List ℕ) where
   one-fits : (slot : ℕ) (b : Buffer) → bufferFits (sweptSlot words slot b) ≡ bufferFits b
-  unfolding sweptSlot
+  unfolding sweptSlot settled
   one-fits slot b = go (keptAt words b slot)
     where
       go : (k : Bool) → bufferFits (cond k b (withSlot b slot (emptyEntry (setOf slot)))) ≡ bufferFits b
@@ -24,7 +24,7 @@ module _ (words : List ℕ) where
       go false = fits-put b slot (emptyEntry (setOf slot))
 
   one-other : (slot other : ℕ) (b : Buffer) → other ≢ slot → slotAt (sweptSlot words slot b) other ≡ slotAt b other
-  unfolding sweptSlot
+  unfolding sweptSlot settled
   one-other slot other b d = go (keptAt words b slot)
     where
       go : (k : Bool) → slotAt (cond k b (withSlot b slot (emptyEntry (setOf slot)))) other ≡ slotAt b other
@@ -33,7 +33,7 @@ module _ (words : List ℕ) where
 
   one-same : (slot : ℕ) (b : Buffer) → bufferFits b ≡ true → slot < 64
       → slotAt (sweptSlot words slot b) slot ≡ cond (keptAt words b slot) (slotAt b slot) (emptyEntry (setOf slot))
-  unfolding sweptSlot setOf
+  unfolding sweptSlot settled setOf
   one-same slot b f l = go (keptAt words b slot)
     where
       go : (k : Bool) → slotAt (cond k b (withSlot b slot (emptyEntry (slot / 16)))) slot ≡ cond k (slotAt b slot) (emptyEntry (slot / 16))

@@ -1,5 +1,6 @@
 pub mod Leaf
 pub mod Sweep
+pub mod Claims
 pub mod Rewrite
 pub mod Machine
 pub mod TableStore

@@ -4,6 +4,7 @@ use mathlib.Core.Path.{_≡_}
 use mathlib.Core.Bool.{Bool, false, cond, not, _&&_, _||_}
 use mathlib.Core.List.{List}
 use lib.Dec.{leb}
+use Rattle.runs.specs.Bits.{bit}
 use Rattle.runs.specs.Counts.{count}
 use Rattle.entry.specs.Address.{setOf, vpnAt}
 use Rattle.entry.specs.Entry.{unpack, sameLow, sameEntry}
@@ -38,8 +39,15 @@ unfoldable pub keptAt : (words : List ℕ) → Buffer → (slot : ℕ) → Bool
 keptAt words b slot = kept words slot (unpack (slotAt b slot))
 
 -- "All others become empty"; a kept slot's number stays, high bits too
+unfoldable pub settled : (keep : Bool) (slot : ℕ) → Buffer → Buffer
+settled keep slot b = cond keep b (withSlot b slot (emptyEntry (setOf slot)))
+
+-- a slot that is not kept counts once
+unfoldable pub goes : (keep : Bool) → ℕ
+goes keep = bit (not keep)
+
 unfoldable pub sweptSlot : (words : List ℕ) (slot : ℕ) → Buffer → Buffer
-sweptSlot words slot b = cond (keptAt words b slot) b (withSlot b slot (emptyEntry (setOf slot)))
+sweptSlot words slot b = settled (keptAt words b slot) slot b
 
 -- the first n slots are swept
 unfoldable pub sweptFirst : (words : List ℕ) (n : ℕ) → Buffer → Buffer

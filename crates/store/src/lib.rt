@@ -7,7 +7,8 @@ ghost use lib.ListN.{length};
 ghost use Rattle.entry.specs.Entry.{pack, unpack};
 ghost use Rattle.slots.specs.Buffer.{Buffer, bufferFits};
 ghost use Rattle.store.specs.Leaf.{leafEntry};
-ghost use Rattle.store.specs.Sweep.{SweepGives, agreesWithTables, kept};
+ghost use Rattle.store.specs.Sweep.{SweepGives, agreesWithLeaf, goes, kept, settled};
+ghost use Rattle.store.specs.Claims.{Claims, PageOf};
 ghost use Rattle.store.specs.Rewrite.{RewriteGives};
 ghost use Rattle.store.specs.TableStore.{TableStoreGives, storeRefusal};
 use entry::Entry;
@@ -15,6 +16,19 @@ use page_table::Found;
 use page_table::Walk;
 use registers::Registers;
 use registers::Reply;
+
+// A page under an identification.
+pub struct Page {
+    pub id: u32,
+    pub vpn: u32,
+}
+
+// What the entry of a slot claims: nothing in an empty slot, what no tables give with page_id 63, else a page's leaf.
+pub enum Claim {
+    Nothing,
+    Void,
+    Of(Page),
+}
 
 // The number of a leaf's entry for a page under an identification.
 pub fn leaf_entry(id: u32, vpn: u32, found: Found) -> u64
@@ -33,32 +47,60 @@ pub fn leaf_entry(id: u32, vpn: u32, found: Found) -> u64
     })
 }
 
-// The walk of an entry's page gives that very entry; its page_id is 62 at most.
-fn agrees_with_tables(words: &[u32], slot: u32, e: u64) -> bool
-    requires { ⌜ (64 ≤ length (now words)) × (slot < 64) × (e < 2 ^ 44) ⌝ }
-    ensures { λ r. ⌜ r ≡ agreesWithTables (now (words .entry)) slot (unpack e) ⌝ }
+// What the entry of a slot claims. Only the 44 bits are judged.
+pub fn claim_of(slot: u32, e: u64) -> Claim
+    requires { ⌜ (slot < 64) × (e < 2 ^ 44) ⌝ }
+    ensures { λ r. ⌜ Claims slot (unpack e) r ⌝ }
 {
+    if e == entry::empty_entry(slot / 16) {
+        return Claim::Nothing;
+    }
     let id = entry::page_id_of(e);
     if 62 < id {
-        return false;
+        return Claim::Void;
     }
     let vpn = 16 * entry::vpn15_of(e) + slot % 16;
-    let found = page_table::walk_page(words, id, vpn);
+    Claim::Of(Page { id, vpn })
+}
+
+// The walk of the page that an entry claims gave that very entry.
+pub fn agrees_with_leaf(found: Walk, page: Page, e: u64) -> bool
+    requires { ⌜ PageOf (unpack e) page × (e < 2 ^ 44) ⌝ }
+    ensures { λ r. ⌜ r ≡ agreesWithLeaf found (page .vpn) (unpack e) ⌝ }
+{
     let Walk::Leaf(leaf) = found else {
         return false;
     };
-    e == leaf_entry(id, vpn, leaf)
+    e == leaf_entry(page.id, page.vpn, leaf)
 }
 
-// The entry is empty, or agrees with the tables.
+// The entry of a slot is empty, or the tables give what it claims.
 fn kept(words: &[u32], slot: u32, e: u64) -> bool
     requires { ⌜ (64 ≤ length (now words)) × (slot < 64) × (e < 2 ^ 44) ⌝ }
     ensures { λ r. ⌜ r ≡ kept (now (words .entry)) slot (unpack e) ⌝ }
 {
-    if e == entry::empty_entry(slot / 16) {
-        return true;
+    match claim_of(slot, e) {
+        Claim::Nothing => true,
+        Claim::Void => false,
+        Claim::Of(page) => {
+            let found = page_table::walk_page(words, page.id, page.vpn);
+            agrees_with_leaf(found, page, e)
+        }
     }
-    agrees_with_tables(words, slot, e)
+}
+
+// Empties a slot unless it is kept; answers how many slots that empties, one or none.
+pub fn settle(buffer: &mut [u64], slot: u32, keep: bool) -> u32
+    requires { ⌜ (bufferFits (Buffer.Wide (now buffer)) ≡ true) × (slot < 64) ⌝ }
+    ensures number { λ n. ⌜ n ≡ goes keep ⌝ }
+    ensures buffer { λ _. ⌜ Buffer.Wide (now (buffer .exit)) ≡ settled keep slot (Buffer.Wide (now (buffer .entry))) ⌝ }
+{
+    if keep {
+        return 0;
+    }
+    let empty = entry::empty_entry(slot / 16);
+    slots::put_slot(buffer, slot, empty);
+    1
 }
 
 // Empties every slot that is not kept, and answers how many.
@@ -69,14 +111,10 @@ fn sweep(buffer: &mut [u64], words: &[u32]) -> u32
     let mut emptied: u32 = 0;
     let mut slot: u32 = 0;
     while slot < 64 {
-        let at = slot;
+        let e = slots::slot_at(buffer, slot);
+        let keep = kept(words, slot, e);
+        emptied += settle(buffer, slot, keep);
         slot += 1;
-        let e = slots::slot_at(buffer, at);
-        if !kept(words, at, e) {
-            let empty = entry::empty_entry(at / 16);
-            slots::put_slot(buffer, at, empty);
-            emptied += 1;
-        }
     }
     emptied
 }

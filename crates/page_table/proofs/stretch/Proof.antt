@@ -1,18 +1,32 @@
 -- `page_table::stretch` meets its contract. Assumes nothing.
-use native.Mathlib.Nat.{add-sub-cancel-left}
 use borrow.Author.Needs.{needs}
+use native.Mathlib.Omega.{arith}
+use native.Mathlib.Nat.{add-sub-cancel-left}
 use Rattle.page_table.specs.Stretches.{stretch}
+use Rattle.page_table.proofs.Descents.{lent-inside}
 use Rattle.page_table.proofs.stretch.Statement.{statement}
 use Rattle.page_table.proofs.stretch.Tie as tie
 
+stretch-size-requires : tie.Need-stretch-size-requires
+stretch-size-requires c κs = search needs
+
+number-of-requires : tie.Need-number-of-requires
+number-of-requires c κs = search needs
+
 mul-from : tie.Need-mul-from
-mul-from c = search needs
+mul-from c =
+    let on = c .before .before .before .pre in
+    omega (arith, lent-inside _ _ _ _ _ on (c .before .stretch-size .ensures) (c .number-of .ensures))
 
 add-to : tie.Need-add-to
-add-to c = search needs
+add-to c =
+    let on = c .before .before .before .pre in
+    omega (arith, lent-inside _ _ _ _ _ on (c .before .stretch-size .ensures) (c .number-of .ensures))
 
 mul-result : tie.Need-mul-result
-mul-result c = search needs
+mul-result c =
+    let on = c .before .before .before .pre in
+    omega (arith, lent-inside _ _ _ _ _ on (c .before .stretch-size .ensures) (c .number-of .ensures))
 
 sub-result : tie.Need-sub-result
 sub-result c = search needs
@@ -21,11 +35,22 @@ part-result-start : tie.Need-part-result-start
 part-result-start c = search needs
 
 part-result-end : tie.Need-part-result-end
-part-result-end c = search needs
+part-result-end c = lent-inside _ _ _ _ _ (c .before .before .before .pre) (c .before .stretch-size .ensures) (c .number-of .ensures)
 
 returns : tie.Need-returns
 unfolding stretch
-returns c = simp add-sub-cancel-left
+returns c = rw (← c .before .before .stretch-size .ensures, ← c .before .number-of .ensures) (simp add-sub-cancel-left)
 
 pub stretch-spec : {M : Type 1} → statement M
-stretch-spec = tie.close (tie.spec mul-from add-to mul-result sub-result part-result-start part-result-end returns)
+stretch-spec =
+    tie.close
+    (tie.spec
+    stretch-size-requires
+    number-of-requires
+    mul-from
+    add-to
+    mul-result
+    sub-result
+    part-result-start
+    part-result-end
+    returns)

@@ -1,6 +1,7 @@
--- `page_table::walk_tree` meets its contract. Assumes nothing.
+-- `page_table::walk_tree` meets its contract: its answer is by where it ends. Assumes nothing.
+use native.Mathlib.Omega.{arith}
+use Rattle.page_table.proofs.Ends.{tree-fits, tree-ends}
 use borrow.Author.Needs.{needs}
-use Rattle.page_table.specs.Walk.{walkTree}
 use Rattle.page_table.proofs.walk_tree.Statement.{statement}
 use Rattle.page_table.proofs.walk_tree.Tie as tie
 
@@ -13,9 +14,13 @@ shared-slice-read-word c = search needs
 descend-requires : tie.Need-descend-requires
 descend-requires c κs = search needs
 
+ended-requires : tie.Need-ended-requires
+ended-requires c κs =
+    let start = c .before .before .before .before in
+    tree-fits _ _ _ _ (start .pre .0) (start .pre .1) (omega arith) (c .descend .ensures)
+
 returns : tie.Need-returns
-unfolding walkTree
-returns c = c .descend .ensures
+returns c = tree-ends _ _ _ _ _ _ (c .before .descend .ensures) (c .ended .ensures)
 
 pub walk-tree-spec : {M : Type 1} → statement M
-walk-tree-spec = tie.close (tie.spec mul-word shared-slice-read-word descend-requires returns)
+walk-tree-spec = tie.close (tie.spec mul-word shared-slice-read-word descend-requires ended-requires returns)
