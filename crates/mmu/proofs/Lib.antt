@@ -1,2 +1,3 @@
 pub mod RawLaws
 pub mod ServedLaws
+pub mod Locations

@@ -34,13 +34,16 @@ use Rattle.store.specs.Machine.{Machine}
 unfoldable pub mayBeServed : Registers → Bool
 mayBeServed r = not (isSet (r .test)) && not (eqb (r .context) 63)
 
+-- the last two of a served access's checks
+abbrev pub serviceRefusal : Registers → (draw : ℕ) → ℕ
+serviceRefusal r draw = refuseUnless (drawFits draw) 4 (refuseUnless (mayBeServed r) 5 0)
+
 unfoldable pub servedRefusal : Machine → Access → ℕ
 servedRefusal m a =
     refuseUnless (registersFit (m .registers)) 1
     (refuseUnless (bufferFits (m .buffer)) 2
     (refuseUnless (tablesFit (m .words)) 3
-    (refuseUnless (drawFits (a .draw)) 4
-    (refuseUnless (mayBeServed (m .registers)) 5 0))))
+    (serviceRefusal (m .registers) (a .draw))))
 
 -- the address, or where there is none the exception's value as the fault
 unfoldable pub outcomeOf : Physical → (value : ℕ) → Outcome

@@ -6,7 +6,8 @@ ghost use Rattle.registers.specs.Refusals.{drawFits};
 ghost use Rattle.slots.specs.Buffer.{Buffer};
 ghost use Rattle.access.specs.Translation.{Accepted};
 ghost use Rattle.mmu.specs.RawAccess.{RawAccessGives, rawRefusal};
-ghost use Rattle.mmu.specs.ServedAccess.{AccessGives, MissGives, ServedAccessGives, mayBeServed, servedRefusal, triedReply};
+ghost use Rattle.mmu.specs.ServedAccess.{AccessGives, MissGives, ServedAccessGives, mayBeServed, servedRefusal, serviceRefusal};
+ghost use Rattle.mmu.specs.ServedAccess.{triedReply};
 use access::Physical;
 use access::Translation;
 use page_table::Walk;
@@ -82,6 +83,19 @@ fn may_be_served(r: Registers) -> bool
     (r.test == 0) & (r.context != 63)
 }
 
+// The last two of a served access's checks.
+pub fn service_refusal(r: Registers, draw: u32) -> u32
+    ensures { λ n. ⌜ n ≡ serviceRefusal r draw ⌝ }
+{
+    if !draw_fits(draw) {
+        return 4;
+    }
+    if !may_be_served(r) {
+        return 5;
+    }
+    0
+}
+
 fn served_refusal(r: Registers, buffer: &[u64], words: &[u32], a: Access) -> u32
     ensures { λ n. ⌜ n ≡ servedRefusal
         (record { registers = r; buffer = Buffer.Wide (now (buffer .entry)); words = now (words .entry) }) a ⌝ }
@@ -95,17 +109,11 @@ fn served_refusal(r: Registers, buffer: &[u64], words: &[u32], a: Access) -> u32
     if !page_table::tables_fit(words) {
         return 3;
     }
-    if !draw_fits(a.draw) {
-        return 4;
-    }
-    if !may_be_served(r) {
-        return 5;
-    }
-    0
+    service_refusal(r, a.draw)
 }
 
 // The address that a try gave, or its exception value as the fault.
-fn tried_reply(t: Translation, loads: u32) -> Reply
+pub fn tried_reply(t: Translation, loads: u32) -> Reply
     ensures { λ s. ⌜ s ≡ triedReply t loads ⌝ }
 {
     let physical = t.physical;
@@ -117,7 +125,7 @@ fn tried_reply(t: Translation, loads: u32) -> Reply
 }
 
 // After a miss: a leaf is loaded and the access tried again, anything else is final.
-fn after_miss(found: Walk, r: Registers, buffer: &mut [u64], a: Access) -> Reply
+pub fn after_miss(found: Walk, r: Registers, buffer: &mut [u64], a: Access) -> Reply
     requires { ⌜ Accepted r (Buffer.Wide (now buffer)) a ⌝ }
     ensures { λ s. ⌜ MissGives found r (Buffer.Wide (now (buffer .entry))) a s (Buffer.Wide (now (buffer .exit))) ⌝ }
 {

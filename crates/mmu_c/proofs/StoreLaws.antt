@@ -1,0 +1,62 @@
+-- What a table store that is not refused was handed, and the ways through it. Assumes nothing.
+use Prim.Native.Nat.{ℕ, _≤_, _<_}
+use mathlib.Core.Path.{_≡_, refl, sym, ap, _∙_, subst}
+use mathlib.Core.List.{List}
+use native.Mathlib.Omega.{arith}
+use lib.ListN.{length}
+use borrow.Author.Tests.{ltb-true}
+use Rattle.wire.specs.Wire.{encoded, decoded}
+use Rattle.registers.proofs.RefusalLaws.{passed, when-accepted, when-refused}
+use Rattle.slots.specs.Buffer.Buffer.{Wide}
+use Rattle.store.specs.Sweep.{swept, emptied}
+use Rattle.store.specs.Rewrite.{Put}
+use Rattle.store.specs.TableStore.{indexFits}
+use Rattle.table_bytes.specs.TableBytes.{wordsOf, RewriteGives}
+use Rattle.mmu_c.specs.Runs.{bufferOf, bufferBytes, registersTaken, bufferTaken, tablesTaken}
+use Rattle.mmu_c.specs.Answers.{refusalAnswer}
+use Rattle.mmu_c.specs.TableStore.{storeRefusal, storedWords, storeNumber, storeBytes, storeTables, TableStoreGives}
+use Rattle.mmu_c.proofs.AnswerLaws.{refusal-room}
+use Rattle.mmu_c.proofs.RunLaws.{buffer-told, tables-told}
+
+-- what the refusal's number tells
+module _ (registers buffer tables : List ℕ) (index n : ℕ) (nq : n ≡ storeRefusal registers buffer tables index) where
+  pub refusal-lt : n < 256
+  unfolding storeRefusal
+  refusal-lt = subst (λ (k : ℕ). k < 256) (sym nq) (refusal-room (registersTaken registers) 1 _ (omega arith)
+      (refusal-room (bufferTaken buffer) 2 _ (omega arith)
+      (refusal-room (tablesTaken tables) 3 _ (omega arith)
+      (refusal-room (indexFits (wordsOf tables) index) 6 0 (omega arith) (omega arith)))))
+
+  pub lengths : n ≡ 0 → (length buffer ≡ 512) × (256 ≤ length tables) × (index < length (wordsOf tables))
+  unfolding storeRefusal indexFits
+  lengths z =
+      let one = passed (registersTaken registers) 1 _ (λ e. omega arith) (sym nq ∙ z) in
+      let two = passed (bufferTaken buffer) 2 _ (λ e. omega arith) (one .1) in
+      let three = passed (tablesTaken tables) 3 _ (λ e. omega arith) (two .1) in
+      let six = passed (indexFits (wordsOf tables) index) 6 _ (λ e. omega arith) (three .1) in (
+        buffer-told buffer (two .0),
+        omega (arith, tables-told tables (three .0)),
+        ltb-true index (length (wordsOf tables)) (six .0),
+      )
+
+-- the two ways through the call
+module _ (registers buffer tables : List ℕ) (p : Put) (n : ℕ) (nq : n ≡ storeRefusal registers buffer tables (p .index)) where
+  pub refused : (answer : ℕ) → (n ≡ 0 → ⊥) → answer ≡ refusalAnswer n → TableStoreGives registers buffer tables p answer buffer tables
+  unfolding storeNumber storeBytes storeTables
+  refused answer h q = record {
+    answer-is = when-refused _ n nq _ _ _ h (q ∙ ap refusalAnswer nq);
+    buffer-is = when-refused _ n nq _ _ _ h refl;
+    tables-are = when-refused _ n nq _ _ _ h refl;
+  }
+
+  pub stored : (run run-after : List ℕ) (answer : ℕ) (buffer-after tables-after : List ℕ) → n ≡ 0 → run ≡ decoded 8 buffer 64
+      → RewriteGives p tables tables-after (Wide run) (Wide run-after) answer → buffer-after ≡ encoded 8 run-after
+      → TableStoreGives registers buffer tables p answer buffer-after tables-after
+  unfolding storeNumber storeBytes storeTables storedWords bufferOf bufferBytes
+  stored run run-after answer buffer-after tables-after z rq g bq = record {
+    answer-is = when-accepted _ n nq _ _ _ z (g .number-is ∙ ap (λ (ns : List ℕ). emptied (storedWords tables p) (Wide ns)) rq);
+    buffer-is =
+        when-accepted _ n nq _ _ _ z
+        (bq ∙ ap bufferBytes (g .buffer-is ∙ ap (λ (ns : List ℕ). swept (storedWords tables p) (Wide ns)) rq));
+    tables-are = when-accepted _ n nq _ _ _ z (g .bytes-are);
+  }

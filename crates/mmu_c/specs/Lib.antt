@@ -1,0 +1,6 @@
+pub mod Runs
+pub mod Answers
+pub mod Location
+pub mod RawAccess
+pub mod ServedAccess
+pub mod TableStore

@@ -1,0 +1,123 @@
+/* A grader's view of a page: it is loaded, aged and given back, and no stale entry answers for it.
+ *
+ * Build, from the root of the repository:
+ *   rt staticlib mmu_c
+ *   gcc -std=c11 -O2 -I include examples/grader.c target/staticlib/libmmu_c.a -o grader
+ * It prints what it saw, one line a step: examples/grader.lines. */
+
+#include <inttypes.h>
+#include <stdio.h>
+#include <string.h>
+
+#include "mmu.h"
+
+/* Word 5 names directory 1, whose first word names table 1; a page's leaf is at 1,024 + page. */
+enum { PROGRAM = 5, DIRECTORY = 1, TABLE = 1, PAGE = 1, FRAME = 0x123 };
+
+static const uint32_t leaf = MMU_PRESENT | MMU_VALID | MMU_WE | FRAME;
+static const uint32_t leaf_index = 1024 * TABLE + PAGE;
+static const uint32_t address = 8192 * PAGE + 0xABC;
+
+struct unit {
+    uint8_t registers[MMU_REGISTER_BYTES];
+    uint8_t buffer[MMU_BUFFER_BYTES];
+    uint8_t tables[MMU_TABLE_BYTES_MAX];
+};
+
+static struct unit unit;
+static struct unit before;
+
+static void put_table_word(uint32_t index, uint32_t word)
+{
+    mmu_put_word(unit.tables + 4 * index, word);
+}
+
+static void set_up(void)
+{
+    put_table_word(PROGRAM, MMU_PRESENT | DIRECTORY);
+    put_table_word(512 * DIRECTORY, MMU_PRESENT | TABLE);
+    put_table_word(leaf_index, leaf);
+    mmu_start(unit.registers, unit.buffer);
+    mmu_put_word(unit.registers + MMU_AT_CONTEXT, PROGRAM);
+    mmu_put_word(unit.registers + MMU_AT_CTRL, MMU_INV_EXC | MMU_ACC_EXC | MMU_WE_EXC);
+    mmu_put_word(unit.registers + MMU_AT_ENABLE, 1);
+}
+
+static void print_access(const char *step, uint64_t answer)
+{
+    printf("%s: ", step);
+    if (mmu_refusal(answer) != 0)
+        printf("refused %" PRIu32 "\n", mmu_refusal(answer));
+    else if (mmu_has_address(answer))
+        printf("at %08" PRIX32 ", loads %" PRIu32 "\n", mmu_address(answer), mmu_loads(answer));
+    else
+        printf("fault %" PRIu32 ", loads %" PRIu32 "%s\n", mmu_value(answer), mmu_loads(answer),
+               mmu_interrupts(answer) ? ", interrupts" : "");
+}
+
+/* A user's access of the page, served. */
+static void served(const char *step, bool write)
+{
+    print_access(step, mmu_served_access(unit.registers, sizeof unit.registers, unit.buffer, sizeof unit.buffer,
+                                         unit.tables, sizeof unit.tables, address, true, write, 2));
+}
+
+/* A user's read of the page by the buffer alone, on a copy of the registers: the unit stays as it is. */
+static void raw(const char *step)
+{
+    uint8_t copy[MMU_REGISTER_BYTES];
+
+    memcpy(copy, unit.registers, sizeof copy);
+    print_access(step, mmu_raw_access(copy, sizeof copy, unit.buffer, sizeof unit.buffer, address, true, false, 2));
+}
+
+static void store_leaf(const char *step, uint32_t word)
+{
+    uint64_t answer = mmu_table_store(unit.registers, sizeof unit.registers, unit.buffer, sizeof unit.buffer,
+                                      unit.tables, sizeof unit.tables, leaf_index, word);
+
+    printf("%s: refusal %" PRIu32 ", slots emptied %" PRIu32 "\n", step, mmu_refusal(answer), mmu_emptied(answer));
+}
+
+static void print_cause(const char *step)
+{
+    uint32_t page_and_program = mmu_get_word(unit.registers + MMU_AT_TLB_HI);
+    uint32_t cause = mmu_get_word(unit.registers + MMU_AT_CAUSE);
+
+    printf("%s: page %" PRIu32 ", program %" PRIu32 ", value %" PRIu32 ", %s, slot %" PRIu32 "\n", step,
+           page_and_program >> 6, page_and_program & 63, cause >> 1, (cause & 1) != 0 ? "write" : "read",
+           mmu_get_word(unit.registers + MMU_AT_SELECT));
+}
+
+/* A buffer of the wrong length, in a store that would have brought the page back. */
+static void refused_store(const char *step)
+{
+    uint64_t answer;
+
+    before = unit;
+    answer = mmu_table_store(unit.registers, sizeof unit.registers, unit.buffer, sizeof unit.buffer - 1,
+                             unit.tables, sizeof unit.tables, leaf_index, leaf);
+    printf("%s: refusal %" PRIu32 ", bytes %s\n", step, mmu_refusal(answer),
+           memcmp(&before, &unit, sizeof unit) == 0 ? "as before" : "changed");
+}
+
+int main(void)
+{
+    set_up();
+    served("first read, a miss", false);
+    served("second read, a hit", false);
+    served("write", true);
+    raw("raw read");
+    store_leaf("page aged, valid 0", leaf & ~MMU_VALID);
+    served("read of the aged page", false);
+    print_cause("cause");
+    served("read again", false);
+    store_leaf("page touched, valid 1", leaf);
+    served("write to it", true);
+    store_leaf("page given back, present 0", leaf & ~MMU_PRESENT);
+    served("read of the page given back", false);
+    raw("raw read");
+    refused_store("store with a buffer of 511 bytes");
+    served("read after it", false);
+    return 0;
+}

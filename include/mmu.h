@@ -1,0 +1,177 @@
+/* The memory unit of the ETRAX 100LX for a host in C or C++; docs/C_INTERFACE.md tells how it is used. */
+
+#ifndef MMU_H
+#define MMU_H
+
+#include <stdbool.h>
+#include <stddef.h>
+#include <stdint.h>
+
+#ifdef __cplusplus
+extern "C" {
+#endif
+
+/* The three calls. */
+
+/* One access by the registers and the buffer alone; it may write the registers. */
+uint64_t mmu_raw_access(uint8_t *registers, size_t registers_len,
+                        const uint8_t *buffer, size_t buffer_len,
+                        uint32_t address, bool user, bool write, uint32_t draw);
+
+/* One access that on a miss walks the tables, loads the leaf and tries again; it may write the registers and one slot. */
+uint64_t mmu_served_access(uint8_t *registers, size_t registers_len,
+                           uint8_t *buffer, size_t buffer_len,
+                           const uint8_t *tables, size_t tables_len,
+                           uint32_t address, bool user, bool write, uint32_t draw);
+
+/* Writes one word of the tables, and empties every slot that they no longer back. */
+uint64_t mmu_table_store(const uint8_t *registers, size_t registers_len,
+                         uint8_t *buffer, size_t buffer_len,
+                         uint8_t *tables, size_t tables_len,
+                         uint32_t index, uint32_t value);
+
+/* The lengths of the runs. */
+
+#define MMU_REGISTER_BYTES 44     /* The registers have eleven words of four bytes. */
+#define MMU_BUFFER_BYTES 512      /* The buffer has 64 slots of eight bytes. */
+#define MMU_TABLE_BYTES_MIN 4096  /* The tables have at least this many bytes. */
+#define MMU_TABLE_BYTES_MAX 65536 /* The tables have at most this many bytes. */
+#define MMU_TABLE_BYTES_STEP 4096 /* The tables' length is a multiple of this. */
+#define MMU_SLOTS 64              /* The buffer has four sets of sixteen slots. */
+
+/* The byte at which each register begins. */
+
+#define MMU_AT_KSEG 0      /* Bit n of the 16 makes segment n linear in supervisor mode. */
+#define MMU_AT_CTRL 4      /* Three bits enable the exceptions that a hit can raise. */
+#define MMU_AT_ENABLE 8    /* One bit switches translation on. */
+#define MMU_AT_KBASE_LO 12 /* Four bits each are the bases of segments 0 to 7. */
+#define MMU_AT_KBASE_HI 16 /* Four bits each are the bases of segments 8 to 15. */
+#define MMU_AT_CONTEXT 20  /* Six bits are the identification of the program that runs. */
+#define MMU_AT_SELECT 24   /* Six bits name the selected slot. */
+#define MMU_AT_TLB_HI 28   /* The page number in bits 24 to 6 and the identification in bits 5 to 0 are the last exception's. */
+#define MMU_AT_TLB_LO 32   /* These are the 23 bits last written to TLB_LO. */
+#define MMU_AT_TEST 36     /* One bit switches the test mode on. */
+#define MMU_AT_CAUSE 40    /* The last exception's value stands in bits 4 to 1 and its write bit in bit 0. */
+
+/* The bits of CTRL. */
+
+#define MMU_WE_EXC 1u  /* A write to a page without write enable is a write error. */
+#define MMU_ACC_EXC 2u /* A user's access to a kernel page is an access violation. */
+#define MMU_INV_EXC 4u /* An access to a page that is not valid is an invalid page. */
+
+/* The bits of a table word. */
+
+#define MMU_PRESENT 0x80000000u /* A root, a directory word or a leaf is there. */
+#define MMU_VALID 0x40000000u   /* The leaf's page is valid. */
+#define MMU_KERNEL 0x20000000u  /* The leaf's page is the kernel's. */
+#define MMU_WE 0x10000000u      /* The leaf's page may be written. */
+
+/* The values of exceptions, added up where several come together; only a served access gives the last two. */
+
+#define MMU_WRITE_ERROR 1u      /* The page may not be written. */
+#define MMU_ACCESS_VIOLATION 2u /* The page is the kernel's. */
+#define MMU_INVALID_PAGE 4u     /* The page is not valid. */
+#define MMU_MISS 8u             /* No entry hit. */
+#define MMU_ABSENT 16u          /* The walk met a word that is not present. */
+#define MMU_BROKEN 32u          /* The walk met a present word that names no directory or table. */
+
+/* The lowest bit of each part of an answer. */
+
+#define MMU_ADDRESS_BIT 0      /* 32 bits are the address of an access. */
+#define MMU_EMPTIED_BIT 0      /* 32 bits are the slots emptied by a store. */
+#define MMU_VALUE_BIT 32       /* 16 bits are the value of the exception or fault. */
+#define MMU_LOADS_BIT 48       /* Four bits are the entries loaded. */
+#define MMU_HAS_ADDRESS_BIT 52 /* One bit says that there is an address. */
+#define MMU_INTERRUPTS_BIT 53  /* One bit says that a raw access interrupts. */
+#define MMU_EXCEPTED_BIT 54    /* One bit says that there was an exception or fault. */
+#define MMU_REFUSAL_BIT 56     /* Eight bits are the refusal's number. */
+
+/* The parts of an answer. */
+
+/* The refusal's number, or 0 for an accepted call. */
+static inline uint32_t mmu_refusal(uint64_t answer)
+{
+    return (uint32_t)(answer >> MMU_REFUSAL_BIT);
+}
+
+/* Whether the access has an address. */
+static inline bool mmu_has_address(uint64_t answer)
+{
+    return (answer >> MMU_HAS_ADDRESS_BIT & 1u) != 0;
+}
+
+/* The physical address of an access that has one. */
+static inline uint32_t mmu_address(uint64_t answer)
+{
+    return (uint32_t)(answer >> MMU_ADDRESS_BIT);
+}
+
+/* Whether there was an exception (raw access) or a fault (served access), which may have value 0. */
+static inline bool mmu_excepted(uint64_t answer)
+{
+    return (answer >> MMU_EXCEPTED_BIT & 1u) != 0;
+}
+
+/* The value of the exception or fault, which is 0 where several entries hit and where there was none. */
+static inline uint32_t mmu_value(uint64_t answer)
+{
+    return (uint32_t)(answer >> MMU_VALUE_BIT & 0xFFFFu);
+}
+
+/* Whether a raw access interrupts; a served access and a store say no. */
+static inline bool mmu_interrupts(uint64_t answer)
+{
+    return (answer >> MMU_INTERRUPTS_BIT & 1u) != 0;
+}
+
+/* How many entries a served access loaded, 0 or 1. */
+static inline uint32_t mmu_loads(uint64_t answer)
+{
+    return (uint32_t)(answer >> MMU_LOADS_BIT & 15u);
+}
+
+/* How many slots a store emptied. */
+static inline uint32_t mmu_emptied(uint64_t answer)
+{
+    return (uint32_t)(answer >> MMU_EMPTIED_BIT);
+}
+
+/* Words in bytes, most significant first. */
+
+/* The word that begins at this byte, as registers + MMU_AT_CAUSE or tables + 4 * index. */
+static inline uint32_t mmu_get_word(const uint8_t *bytes)
+{
+    return (uint32_t)bytes[0] << 24 | (uint32_t)bytes[1] << 16 | (uint32_t)bytes[2] << 8 | bytes[3];
+}
+
+/* Writes the word that begins at this byte.
+ *
+ * A setting written so into the registers is the host's own: nothing checks it before the next call. What is proved of whole
+ * sequences of calls speaks of KSEG, CTRL, ENABLE, KBASE_LO, KBASE_HI and CONTEXT alone, of values within their bits, and of
+ * CONTEXT 0 to 62. After the start the tables are written by mmu_table_store alone. */
+static inline void mmu_put_word(uint8_t *bytes, uint32_t word)
+{
+    bytes[0] = (uint8_t)(word >> 24);
+    bytes[1] = (uint8_t)(word >> 16);
+    bytes[2] = (uint8_t)(word >> 8);
+    bytes[3] = (uint8_t)word;
+}
+
+/* The start. */
+
+/* Makes all registers 0 and every slot empty: its set's number as vpn15, page_id 63, all else 0. */
+static inline void mmu_start(uint8_t registers[MMU_REGISTER_BYTES], uint8_t buffer[MMU_BUFFER_BYTES])
+{
+    for (size_t byte = 0; byte < MMU_REGISTER_BYTES; byte += 4)
+        mmu_put_word(registers + byte, 0);
+    for (size_t slot = 0; slot < MMU_SLOTS; slot++) {
+        mmu_put_word(buffer + 8 * slot, 0);
+        mmu_put_word(buffer + 8 * slot + 4, (uint32_t)(slot / 16) << 29 | 63u << 23);
+    }
+}
+
+#ifdef __cplusplus
+}
+#endif
+
+#endif
