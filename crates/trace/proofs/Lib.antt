@@ -1,0 +1,4 @@
+pub mod RecordLaws
+pub mod StepLaws
+pub mod TraceLaws
+pub mod Blocks
