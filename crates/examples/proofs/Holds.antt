@@ -20,7 +20,7 @@ use Rattle.access.specs.Exceptions.{invExc, accExc, weExc, writeError, accessVi
 use Rattle.access.specs.Translation.{pageAddress, isSet, noException, withCause, exceptionAddress, interrupts, exceptionAnswer, hitValue}
 use Rattle.access.specs.Translation.{onHit, byHitCount, foundSet, pageMapped, translate}
 use Rattle.store.specs.Leaf.{leafEntry}
-use Rattle.store.specs.Sweep.{isEmpty, agreesWithLeaf, agreesWithTables, kept, keptAt, sweptSlot, sweptFirst, swept, emptied}
+use Rattle.store.specs.Sweep.{isEmpty, agreesWithLeaf, agreesWithTables, kept, keptAt, settled, sweptSlot, sweptFirst, swept, emptied}
 use Rattle.store.specs.Rewrite.{written}
 use Rattle.store.specs.TableStore.{indexFits, storeRefusal, storedWords, storeReply, bufferAfterStore, wordsAfterStore}
 use Rattle.mmu.specs.RawAccess.{rawRefusal, rawReply}
@@ -35,6 +35,14 @@ use Rattle.sequence.specs.Requests.{effectOf}
 use Rattle.sequence.specs.Calls.{callOn}
 use Rattle.sequence.specs.Systems.{begun, systemAfter}
 use Rattle.sequence.specs.Asks.{callOf, eventOf, eventsOf, linesOf}
+use Rattle.wire.specs.Wire.{bytesOf, numberAt, elementAt, encoded}
+use Rattle.trace.specs.Commands.{kindOf, userOf, writeOf, drawOf, indexOf, valueOf, isPlain, wellFormed, settingNumbers, settingOf}
+use Rattle.trace.specs.Commands.{accessOf, askedBy, commandOf, commandAt, commandsFrom, recordCount, commandsOf}
+use Rattle.trace.specs.Steps.{stepReply, bufferAfterStep, wordsAfterStep, machineAfterStep}
+use Rattle.line.specs.Text.{ascii, digit, digits, lengthWithin, decimalLength, decimal, hex}
+use Rattle.line.specs.Lines.{wordOf, headOf, lineOf}
+use Rattle.line.specs.Lines.{valueOf as lineValue}
+use Rattle.trace.specs.Traces.{linesOf as traceLines, startMachine, traceText}
 use Rattle.examples.specs.Claims.{Values, allComputed, allOwed}
 use Rattle.examples.specs.Scene.{registersWith, enabled, enabledAfter, started, user, supervisor, replied, entryWith, oneEntry}
 use Rattle.examples.specs.Scene.{twoEntries}
@@ -48,6 +56,7 @@ use Rattle.examples.specs.Stores.{entryOf, agreeing, sweeps, numbers, st
 use Rattle.examples.specs.Ends.{last, ends}
 use Rattle.examples.specs.Sequences.{lent, fresh, worked, workedLines, strays, strayLines, outcomes}
 use Rattle.examples.specs.Sequences.{outcomeLines, sequences}
+use Rattle.examples.specs.Traces.{workedInput, workedText, traces}
 use Rattle.examples.specs.Examples.{examples}
 
 pub all-hold : allComputed examples ≡ allOwed examples
@@ -62,10 +71,14 @@ unfolding all count lowest vpnOf offsetOf location vpn15Of slotOf setOf unpack j
     selected marked row rowAfter kernelPage openPage rows based segments tooWide refusals exceptions globalEntry highBits hits short
     caused calls largest fields tables good shared globalBroken walks vpnAt sameLow sameEntry leafValid leafKernel leafWe leafPfn
     lengthFits tablesFit walkFault setMatches loadSlot loadedBuffer leafEntry isEmpty agreesWithLeaf agreesWithTables kept keptAt
-    sweptSlot sweptFirst swept emptied written indexFits storeRefusal storedWords storeReply bufferAfterStore wordsAfterStore mayBeServed
+    settled sweptSlot sweptFirst swept emptied written indexFits storeRefusal storedWords storeReply bufferAfterStore wordsAfterStore
+    mayBeServed
     servedRefusal outcomeOf triedReply missed loadedAt registersLoaded bufferLoaded afterMiss bufferAfterMiss firstTry walkFor accessReply
     accessBuffer servedReply servedBuffer isGuarded switchFits settingRefusal argumentRefusal settingReply refusal accepted effectBy
     requestOf effectOf leftBy callOn begun systemAfter callOf eventOf eventsOf linesOf machine agedEntry aged reading served entryOf
     agreeing sweeps numbers stores guardedSettings last ends lent fresh worked workedLines strays strayLines outcomes outcomeLines sequences
-    examples
+    bytesOf numberAt elementAt encoded kindOf userOf writeOf drawOf indexOf valueOf isPlain wellFormed settingNumbers settingOf accessOf
+    askedBy commandOf commandAt commandsFrom recordCount commandsOf stepReply bufferAfterStep wordsAfterStep machineAfterStep ascii digit
+    digits lengthWithin decimalLength decimal hex wordOf headOf lineOf lineValue traceLines startMachine traceText workedInput workedText
+    traces examples
 all-hold = refl

@@ -5,6 +5,7 @@ pub mod Served
 pub mod Stores
 pub mod Ends
 pub mod Sequences
+pub mod Traces
 pub mod Marked
 pub mod Accesses
 pub mod Conditions
