@@ -34,7 +34,7 @@ pub fn answer(request: &Request, tables: &mut Rc<Vec<u32>>) -> Answer {
         }
         Call::Read { number } => (words_of_read(read_register(registers, number)), registers),
         Call::Walk { page_id, vpn } if walk_is_possible(page_id, vpn, tables) => {
-            (words_of_walk(walk(tables, page_id, vpn)), registers)
+            (words_of_walk(walk(&tables[..], page_id, vpn)), registers)
         }
         Call::Walk { .. } => ([3, 0, 0, 0], registers),
         Call::Served(access) => {
@@ -61,13 +61,20 @@ pub fn answer(request: &Request, tables: &mut Rc<Vec<u32>>) -> Answer {
 }
 
 fn words_of_reply(reply: Reply) -> ([u32; 4], Registers) {
-    let (word, value) = match reply.outcome {
+    (
+        words_of_outcome(reply.outcome, reply.loads),
+        reply.registers,
+    )
+}
+
+pub fn words_of_outcome(outcome: Outcome, loads: u32) -> [u32; 4] {
+    let (word, value) = match outcome {
         Outcome::At(address) => (AT, address),
         Outcome::Fault(value) => (FAULT, value),
         Outcome::Done(value) => (DONE, value),
         Outcome::Refused(refusal) => (REFUSED, refusal.number()),
     };
-    ([word, value, reply.loads, 0], reply.registers)
+    [word, value, loads, 0]
 }
 
 fn words_of_done(done: Result<(), Refusal>) -> [u32; 4] {

@@ -1,36 +1,35 @@
-//! Compares the program under test with the reference, case by case.
+//! Compares the programs under test with the second program, tests/reference.
 //!
-//! Use: compare PROGRAM [SEED] [CASES]
+//! Use:
+//!   compare calls PROBE [SEED] [CASES]        the single calls, by the program `probe`
+//!   compare traces MMUTRACE [SEED] [TRACES]   whole traces, by the trace program
+//!   compare host HOST [SEED] [CASES]          the C calls, by tests/host
 //!
-//! Every edge case is put whatever the number of cases; random ones fill it up. There are so many
-//! cases of the single calls, more than half as many served accesses, stores and settings on
-//! arbitrary states, and some more of these in sequences from the start.
+//! Prints how often each outcome happened. An outcome fails that never happened or in which the
+//! programs differed. The last line is 'N passed, M failed'; the status is 0 where M is 0.
 
+mod calls;
 mod cases;
 mod comparison;
 mod difference;
+mod exchange;
 mod expected;
+mod host;
 mod outcome;
 mod program;
 mod protocol;
+mod put;
 mod random;
 mod tally;
+mod traces;
 mod witness;
 
-use comparison::Comparison;
-use random::Random;
 use std::process::ExitCode;
 
 const SEED: u64 = 100;
-const CASES: usize = 200_000;
+const USE: &str = "use: compare calls|traces|host PROGRAM [SEED] [NUMBER]";
 
-struct Arguments {
-    program: String,
-    seed: u64,
-    cases: usize,
-}
-
-fn arguments() -> Result<Arguments, String> {
+fn compare() -> Result<bool, String> {
     let words: Vec<String> = std::env::args().skip(1).collect();
     let number = |n: usize, default: u64| match words.get(n) {
         None => Ok(default),
@@ -38,32 +37,23 @@ fn arguments() -> Result<Arguments, String> {
             .parse()
             .map_err(|_| format!("{word} is not a decimal number")),
     };
-    match words.len() {
-        1..=3 => Ok(Arguments {
-            program: words[0].clone(),
-            seed: number(1, SEED)?,
-            cases: number(2, CASES as u64)? as usize,
-        }),
-        _ => Err("use: compare PROGRAM [SEED] [CASES]".to_string()),
+    if !(2..=4).contains(&words.len()) {
+        return Err(USE.to_string());
+    }
+    let program = &words[1];
+    let seed = number(2, SEED)?;
+    let many = |default: usize| Ok::<usize, String>(number(3, default as u64)? as usize);
+    println!("seed {seed}");
+    match &words[0][..] {
+        "calls" => calls::compare(program, seed, many(calls::CASES)?),
+        "host" => host::compare(program, seed, many(host::CASES)?),
+        "traces" => traces::compare(program, seed, many(traces::TRACES)?),
+        _ => Err(USE.to_string()),
     }
 }
 
-fn compare(arguments: &Arguments) -> Result<bool, String> {
-    println!("seed {}", arguments.seed);
-    let mut random = Random::new(arguments.seed);
-    let mut comparison = Comparison::start(&arguments.program)?;
-    cases::edges(&mut comparison, &mut random);
-    cases::at_random(&mut comparison, &mut random, arguments.cases);
-    let total = comparison.count() + arguments.cases / 20 * 11;
-    cases::served_edges(&mut comparison, &mut random);
-    cases::served_at_random(&mut comparison, &mut random, total);
-    let total = comparison.count() + arguments.cases / 20 * 13;
-    cases::sequences(&mut comparison, &mut random, total);
-    Ok(comparison.finish())
-}
-
 fn main() -> ExitCode {
-    match arguments().and_then(|arguments| compare(&arguments)) {
+    match compare() {
         Ok(true) => ExitCode::SUCCESS,
         Ok(false) => ExitCode::FAILURE,
         Err(problem) => {

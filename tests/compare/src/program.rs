@@ -9,6 +9,10 @@ use std::time::{Duration, Instant};
 
 const PATIENCE: Duration = Duration::from_secs(20);
 
+/// How long a program that is about to end is left alone between two looks at it.
+const SHORTEST_NAP: Duration = Duration::from_micros(20);
+const LONGEST_NAP: Duration = Duration::from_millis(5);
+
 /// A program that never stops writing is held back here, and fills no memory.
 const MOST_PIECES_UNREAD: usize = 64;
 
@@ -97,6 +101,38 @@ impl Program {
         Err("the output goes on after the last answer".to_string())
     }
 
+    /// All that the program writes which is given these bytes and nothing more, and ends well. The
+    /// bytes come in pieces of so many, where they are fewer than all with a pause after each. More
+    /// than the most that is of interest is not waited for.
+    pub fn output_of(
+        path: &str,
+        input: &[u8],
+        piece: usize,
+        most: usize,
+    ) -> Result<Vec<u8>, String> {
+        let mut program = Program::start(path)?;
+        for bytes in input.chunks(piece) {
+            program.send(bytes.to_vec());
+            program.send_block();
+            if bytes.len() < input.len() {
+                thread::sleep(SHORTEST_NAP);
+            }
+        }
+        program.end_input();
+        let mut output = Vec::new();
+        while output.len() <= most {
+            match program.next_piece() {
+                Ok(bytes) => output.extend(bytes),
+                Err(RecvTimeoutError::Timeout) => return Err(silence()),
+                Err(RecvTimeoutError::Disconnected) => {
+                    program.wait()?;
+                    break;
+                }
+            }
+        }
+        Ok(output)
+    }
+
     fn next_piece(&self) -> Result<Vec<u8>, RecvTimeoutError> {
         match self.requests {
             Some(_) => self.answers.recv_timeout(Duration::ZERO),
@@ -106,11 +142,15 @@ impl Program {
 
     fn wait(&mut self) -> Result<(), String> {
         let begun = Instant::now();
+        let mut nap = SHORTEST_NAP;
         while begun.elapsed() < PATIENCE {
             match self.child.try_wait() {
                 Ok(Some(status)) if status.success() => return Ok(()),
                 Ok(Some(status)) => return Err(format!("the program ended with {status}")),
-                Ok(None) => thread::sleep(Duration::from_millis(5)),
+                Ok(None) => {
+                    thread::sleep(nap);
+                    nap = LONGEST_NAP.min(2 * nap);
+                }
                 Err(error) => return Err(error.to_string()),
             }
         }

@@ -47,7 +47,7 @@ impl Call {
     }
 }
 
-fn words_of_access(kind: u32, access: Access) -> [u32; 5] {
+pub fn words_of_access(kind: u32, access: Access) -> [u32; 5] {
     let (user, write) = (u32::from(access.user), u32::from(access.write));
     [kind, access.address, user, write, access.draw]
 }

@@ -1,12 +1,13 @@
 //! The memory unit of the ETRAX 100LX as document 01 tells it.
 //!
 //! Each module is one heading of that paper, and quotes its words where a
-//! sentence decides. Nothing here is meant to be fast.
+//! sentence decides.
 
 mod account;
 mod address;
 mod entry;
 mod guarded;
+pub mod host;
 mod leaf;
 mod load;
 mod raw;
@@ -16,11 +17,13 @@ mod register_read;
 mod register_write;
 mod registers;
 mod reply;
+mod run;
 mod search;
 mod served;
 mod start;
 mod store;
 mod sweep;
+pub mod trace;
 mod walk;
 
 pub use account::Account;
@@ -39,7 +42,8 @@ pub use register_read::read_register;
 pub use register_write::write_register;
 pub use registers::{fits, Registers, FIELDS, FIELD_BITS, FIELD_NAMES};
 pub use reply::{Outcome, Reply};
-pub use search::{hits, is_hit};
+pub use run::{InBytes, Run, RunMut};
+pub use search::{hits, is_hit, Hits};
 pub use served::{served_access, FAULT_ABSENT, FAULT_BROKEN};
 pub use start::start;
 pub use store::table_store;

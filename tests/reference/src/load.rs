@@ -4,12 +4,13 @@ use crate::address::{location, slot, slots_of, vpn15};
 use crate::entry::Entry;
 use crate::leaf::Leaf;
 use crate::registers::Registers;
+use crate::run::{Run, RunMut};
 
 /// "It stores vpn15, context page_id and the leaf's fields; SELECT then names that slot, and no
 /// other register changes."
 pub fn load(
     registers: Registers,
-    buffer: &mut [u64],
+    buffer: &mut (impl RunMut<u64> + ?Sized),
     vpn: u32,
     leaf: Leaf,
     draw: u32,
@@ -24,7 +25,7 @@ pub fn load(
         we: leaf.we,
         pfn: leaf.pfn,
     };
-    buffer[slot] = entry.pack();
+    buffer.put(slot, entry.pack());
     Registers {
         select: slot as u32,
         ..registers
@@ -33,9 +34,14 @@ pub fn load(
 
 /// "Among the location's four slots, the lowest that has the vpn15 and is global or carries the
 /// context's page_id, whatever its valid bit; else the slot of the draw."
-pub fn slot_to_load(registers: Registers, buffer: &[u64], vpn: u32, draw: u32) -> usize {
+pub fn slot_to_load(
+    registers: Registers,
+    buffer: &(impl Run<u64> + ?Sized),
+    vpn: u32,
+    draw: u32,
+) -> usize {
     for slot in slots_of(location(vpn)) {
-        if is_of_page(registers, Entry::unpack(buffer[slot]), vpn) {
+        if is_of_page(registers, Entry::unpack(buffer.at(slot)), vpn) {
             return slot;
         }
     }

@@ -4,6 +4,7 @@ use crate::address::{location, offset, segment, slot, vpn};
 use crate::entry::Entry;
 use crate::refusal::{check_buffer, check_draw, check_registers, Refusal};
 use crate::registers::Registers;
+use crate::run::Run;
 use crate::search::hits;
 
 pub const EXCEPTION_WRITE_ERROR: u32 = 1;
@@ -54,13 +55,23 @@ pub fn raw_access(
     if let Err(refusal) = check(registers, buffer, access) {
         return (Err(refusal), registers);
     }
+    let (answer, registers) = accepted_access(registers, buffer, access);
+    (Ok(answer), registers)
+}
+
+/// A raw access that nothing refuses.
+pub fn accepted_access(
+    registers: Registers,
+    buffer: &(impl Run<u64> + ?Sized),
+    access: Access,
+) -> (RawAnswer, Registers) {
     let translation = translate(registers, buffer, access);
     let answer = answer_of_row(registers, access, translation);
     if answer.exception {
         let registers = with_cause(registers, access, translation, answer.value);
-        return (Ok(answer), registers);
+        return (answer, registers);
     }
-    (Ok(answer), registers)
+    (answer, registers)
 }
 
 fn check(registers: Registers, buffer: &[u64], access: Access) -> Result<(), Refusal> {
@@ -70,7 +81,11 @@ fn check(registers: Registers, buffer: &[u64], access: Access) -> Result<(), Ref
 }
 
 /// Rules 1 and 2: the linear segment in supervisor mode, otherwise the buffer.
-pub fn translate(registers: Registers, buffer: &[u64], access: Access) -> Translation {
+pub fn translate(
+    registers: Registers,
+    buffer: &(impl Run<u64> + ?Sized),
+    access: Access,
+) -> Translation {
     let segment = segment(access.address);
     if !access.user && registers.segment_is_linear(segment) {
         let rest = access.address % (1 << 28);
@@ -80,7 +95,7 @@ pub fn translate(registers: Registers, buffer: &[u64], access: Access) -> Transl
     match hits(registers, buffer, vpn(access.address))[..] {
         [] => Translation::Miss,
         [slot] => {
-            let entry = Entry::unpack(buffer[slot]);
+            let entry = Entry::unpack(buffer.at(slot));
             Translation::OneHit {
                 slot,
                 address: entry.pfn * 8192 + offset(access.address),

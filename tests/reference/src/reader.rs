@@ -115,7 +115,7 @@ impl Reader {
 
     /// "The reader's walk is the walk over these words under its CONTEXT."
     pub fn walk(&self, access: Access) -> Walk {
-        walk(&self.words, self.context(), access.address / 8192)
+        walk(&self.words[..], self.context(), access.address / 8192)
     }
 
     /// "The answer without a buffer: enable off gives the virtual address; then the linear rule;

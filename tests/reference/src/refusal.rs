@@ -15,6 +15,7 @@ pub enum Refusal {
     TestModeOrContext,
     WordIndex,
     RegisterNumber,
+    Record,
 }
 
 impl Refusal {
@@ -27,6 +28,7 @@ impl Refusal {
             Refusal::TestModeOrContext => 5,
             Refusal::WordIndex => 6,
             Refusal::RegisterNumber => 7,
+            Refusal::Record => 8,
         }
     }
 }

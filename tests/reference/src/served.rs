@@ -3,12 +3,13 @@
 use crate::address::vpn;
 use crate::leaf::Leaf;
 use crate::load::load;
-use crate::raw::{raw_access, Access, RawAnswer, EXCEPTION_MISS};
+use crate::raw::{accepted_access, Access, RawAnswer, EXCEPTION_MISS};
 use crate::refusal::{
     check_buffer, check_draw, check_registers, check_served, check_tables, Refusal,
 };
 use crate::registers::Registers;
 use crate::reply::{Outcome, Reply};
+use crate::run::{Run, RunMut};
 use crate::walk::{walk, Walk};
 
 pub const FAULT_ABSENT: u32 = 16;
@@ -24,7 +25,17 @@ pub fn served_access(
     if let Err(refusal) = check(registers, buffer, words, access) {
         return Reply::refused(refusal, registers);
     }
-    let (first, registers) = one_try(registers, buffer, access);
+    serve(registers, buffer, words, access)
+}
+
+/// A served access that nothing refuses.
+pub fn serve(
+    registers: Registers,
+    buffer: &mut (impl RunMut<u64> + ?Sized),
+    words: &(impl Run<u32> + ?Sized),
+    access: Access,
+) -> Reply {
+    let (first, registers) = accepted_access(registers, buffer, access);
     if registers.enable == 0 || !is_miss(first) {
         return reply(final_outcome(first), 0, registers);
     }
@@ -35,7 +46,7 @@ pub fn served_access(
             let leaf = Leaf::from_word(decided);
             let vpn = vpn(access.address);
             let registers = load(registers, buffer, vpn, leaf, access.draw);
-            let (second, registers) = one_try(registers, buffer, access);
+            let (second, registers) = accepted_access(registers, buffer, access);
             reply(final_outcome(second), 1, registers)
         }
     }
@@ -52,13 +63,6 @@ fn check(
     check_tables(words.len())?;
     check_draw(access.draw)?;
     check_served(registers)
-}
-
-/// A raw access "with the same draw", first or second.
-fn one_try(registers: Registers, buffer: &[u64], access: Access) -> (RawAnswer, Registers) {
-    let (answer, registers) = raw_access(registers, buffer, access);
-    let answer = answer.expect("a served access has passed the checks of a raw one");
-    (answer, registers)
 }
 
 fn is_miss(answer: RawAnswer) -> bool {

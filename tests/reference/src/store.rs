@@ -3,6 +3,7 @@
 use crate::refusal::{check_buffer, check_index, check_registers, check_tables, Refusal};
 use crate::registers::Registers;
 use crate::reply::{Outcome, Reply};
+use crate::run::RunMut;
 use crate::sweep::sweep;
 
 /// Refusals 1, 2, 3 and 6 in this order. "Writes one table word, then sweeps." "Registers stay."
@@ -16,12 +17,22 @@ pub fn table_store(
     if let Err(refusal) = check(registers, buffer, words, index) {
         return Reply::refused(refusal, registers);
     }
-    words[index as usize] = value;
     Reply {
-        outcome: Outcome::Done(sweep(buffer, words)),
+        outcome: Outcome::Done(store(buffer, words, index, value)),
         loads: 0,
         registers,
     }
+}
+
+/// A store that nothing refuses; the slots emptied.
+pub fn store(
+    buffer: &mut (impl RunMut<u64> + ?Sized),
+    words: &mut (impl RunMut<u32> + ?Sized),
+    index: u32,
+    value: u32,
+) -> u32 {
+    words.put(index as usize, value);
+    sweep(buffer, words)
 }
 
 fn check(registers: Registers, buffer: &[u64], words: &[u32], index: u32) -> Result<(), Refusal> {

@@ -1,17 +1,18 @@
 //! The sweep of the buffer after a table store.
 
-use crate::address::LOCATIONS;
+use crate::address::{LOCATIONS, SLOTS};
 use crate::entry::Entry;
 use crate::leaf::Leaf;
+use crate::run::{Run, RunMut};
 use crate::walk::walk;
 
 /// "All others become empty; the number of emptied slots is the answer." A kept slot's number
 /// stays, high bits too.
-pub fn sweep(buffer: &mut [u64], words: &[u32]) -> u32 {
+pub fn sweep(buffer: &mut (impl RunMut<u64> + ?Sized), words: &(impl Run<u32> + ?Sized)) -> u32 {
     let mut emptied = 0;
-    for (slot, number) in buffer.iter_mut().enumerate() {
-        if !is_kept(slot, Entry::unpack(*number), words) {
-            *number = Entry::empty(slot / LOCATIONS).pack();
+    for slot in 0..SLOTS {
+        if !is_kept(slot, Entry::unpack(buffer.at(slot)), words) {
+            buffer.put(slot, Entry::empty(slot / LOCATIONS).pack());
             emptied += 1;
         }
     }
@@ -20,7 +21,7 @@ pub fn sweep(buffer: &mut [u64], words: &[u32]) -> u32 {
 
 /// "A slot is kept if it is empty, or if its page_id is at most 62 and the walk of its vpn under
 /// that page_id now gives a leaf with the same global, valid, kernel, we and pfn."
-pub fn is_kept(slot: usize, entry: Entry, words: &[u32]) -> bool {
+pub fn is_kept(slot: usize, entry: Entry, words: &(impl Run<u32> + ?Sized)) -> bool {
     if entry == Entry::empty(slot / LOCATIONS) {
         return true;
     }

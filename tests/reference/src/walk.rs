@@ -1,5 +1,7 @@
 //! The page-table walk.
 
+use crate::run::Run;
+
 /// "Word 63 is the global root."
 pub const GLOBAL_ROOT: usize = 63;
 
@@ -58,7 +60,7 @@ pub enum Walk {
 
 /// "The global tree is walked first"; absent there means walk the own tree, and a leaf or a
 /// broken word there ends the walk. The run has at least 64 words.
-pub fn walk(words: &[u32], page_id: u32, vpn: u32) -> Walk {
+pub fn walk(words: &(impl Run<u32> + ?Sized), page_id: u32, vpn: u32) -> Walk {
     match walk_tree(words, Tree::Global, page_id, vpn) {
         Walk::Absent(_) => walk_tree(words, Tree::Own, page_id, vpn),
         decided => decided,
@@ -66,7 +68,7 @@ pub fn walk(words: &[u32], page_id: u32, vpn: u32) -> Walk {
 }
 
 /// One tree's walk: root, the directory at vpn div 1024, the table at vpn mod 1024.
-pub fn walk_tree(words: &[u32], tree: Tree, page_id: u32, vpn: u32) -> Walk {
+pub fn walk_tree(words: &(impl Run<u32> + ?Sized), tree: Tree, page_id: u32, vpn: u32) -> Walk {
     let root = match tree {
         Tree::Global => GLOBAL_ROOT,
         Tree::Own => page_id as usize,
@@ -75,21 +77,21 @@ pub fn walk_tree(words: &[u32], tree: Tree, page_id: u32, vpn: u32) -> Walk {
         tree,
         level,
         index,
-        word: words[index],
+        word: words.at(index),
     };
 
     let root = at(Level::Root, root);
     if !present(root.word) {
         return Walk::Absent(root);
     }
-    let directory = match stretch_begin(words, root.word, DIRECTORY_WORDS) {
+    let directory = match stretch_begin(words.length(), root.word, DIRECTORY_WORDS) {
         Ok(begin) => at(Level::Directory, begin + (vpn / 1024) as usize),
         Err(why) => return Walk::Broken(root, why),
     };
     if !present(directory.word) {
         return Walk::Absent(directory);
     }
-    let leaf = match stretch_begin(words, directory.word, TABLE_WORDS) {
+    let leaf = match stretch_begin(words.length(), directory.word, TABLE_WORDS) {
         Ok(begin) => at(Level::Leaf, begin + (vpn % 1024) as usize),
         Err(why) => return Walk::Broken(directory, why),
     };
@@ -106,7 +108,7 @@ fn present(word: u32) -> bool {
 
 /// Where the stretch that a present root or directory word names begins, or why the word is
 /// broken: reserved bits 30 to 16 set, number 0, or the stretch not wholly inside the run.
-fn stretch_begin(words: &[u32], word: u32, length: usize) -> Result<usize, WhyBroken> {
+fn stretch_begin(run: usize, word: u32, length: usize) -> Result<usize, WhyBroken> {
     let reserved = (word >> 16) % (1 << 15);
     let number = (word % (1 << 16)) as usize;
     if reserved != 0 {
@@ -116,10 +118,10 @@ fn stretch_begin(words: &[u32], word: u32, length: usize) -> Result<usize, WhyBr
         return Err(WhyBroken::NumberZero);
     }
     let begin = length * number;
-    if begin >= words.len() {
+    if begin >= run {
         return Err(WhyBroken::WhollyOutside);
     }
-    if begin + length > words.len() {
+    if begin + length > run {
         return Err(WhyBroken::PartlyOutside);
     }
     Ok(begin)

@@ -18,14 +18,14 @@ fn the_sample_tables_give_their_leaf() {
     words[5] = 0x8000_0001;
     words[512] = 0x8000_0001;
     words[1025] = 0xD000_0123;
-    let Walk::Leaf(leaf) = walk(&words, 5, 1) else {
+    let Walk::Leaf(leaf) = walk(&words[..], 5, 1) else {
         panic!("no leaf");
     };
     assert_eq!(
         (leaf.tree, leaf.index, leaf.word),
         (Tree::Own, 1025, 0xD000_0123)
     );
-    let Walk::Absent(decided) = walk(&words, 5, 2) else {
+    let Walk::Absent(decided) = walk(&words[..], 5, 2) else {
         panic!("not absent");
     };
     assert_eq!((decided.tree, decided.level), (Tree::Own, Level::Leaf));

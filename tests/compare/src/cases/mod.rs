@@ -4,23 +4,25 @@ mod forest;
 mod raw;
 mod raw_edges;
 mod read;
-mod scene;
+pub mod scene;
 mod sequence;
 mod served;
 mod served_edges;
 mod setting;
 mod spoil;
 mod start;
-mod state;
+pub mod state;
+pub mod steps;
 mod store;
 mod tables;
 mod walk;
 mod words;
-mod world;
+pub mod world;
 mod write;
 
 use crate::comparison::Comparison;
 use crate::protocol::Request;
+use crate::put::Put;
 use crate::random::Random;
 use scene::Scene;
 use tables::ask_for_tables;
@@ -103,12 +105,32 @@ pub fn sequences(comparison: &mut Comparison, random: &mut Random, total: usize)
     }
 }
 
+/// Raw accesses, served accesses and stores made on purpose; the first ones find no table run.
+pub fn c_edges(to: &mut dyn Put, random: &mut Random) {
+    served_edges::without_run(to, random);
+    store::without_run(to, random);
+    raw_edges::put(to, random);
+    served_edges::put(to, random);
+    served_edges::every_length(to, random);
+    store::edges(to, random);
+    store::every_length(to, random);
+}
+
+/// A random raw access, served access or store.
+pub fn any_c_call(random: &mut Random, scene: &mut Scene, kept: &[u32]) -> Request {
+    match random.below(16) {
+        0..=5 => raw::random(random),
+        6..=10 => served::random(random, scene, kept),
+        _ => store::random(random, scene, kept),
+    }
+}
+
 fn put_any_served(comparison: &mut Comparison, random: &mut Random, scene: &mut Scene) {
     let request = match random.below(64) {
         0 => return ask_for_tables(comparison),
         1..=6 => setting::random(random, comparison.tables().len()),
-        7..=36 => store::random(random, scene, comparison),
-        _ => served::random(random, scene, comparison),
+        7..=36 => store::random(random, scene, comparison.tables()),
+        _ => served::random(random, scene, comparison.tables()),
     };
     comparison.put(request);
 }

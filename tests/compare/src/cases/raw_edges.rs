@@ -2,13 +2,13 @@
 
 use super::raw::{matching, request};
 use super::{state, TOO_LARGE};
-use crate::comparison::Comparison;
+use crate::put::Put;
 use crate::random::Random;
 use reference::*;
 
 const ROWS: [(u32, u32); 4] = [(0, 0), (0, 1), (1, 0), (1, 1)];
 
-pub fn put(comparison: &mut Comparison, random: &mut Random) {
+pub fn put(comparison: &mut dyn Put, random: &mut Random) {
     refusals(comparison, random);
     segments(comparison, random);
     one_entry(comparison, random);
@@ -39,7 +39,7 @@ fn access(random: &mut Random, page: u32, mode: u32) -> Access {
 }
 
 /// Every register edge with every length and every edge of the draw.
-fn refusals(comparison: &mut Comparison, random: &mut Random) {
+fn refusals(comparison: &mut dyn Put, random: &mut Random) {
     let draws = [&[0, 3, 4, 5, 7][..], &TOO_LARGE].concat();
     for registers in state::register_edges(random) {
         for length in state::LENGTHS {
@@ -57,7 +57,7 @@ fn refusals(comparison: &mut Comparison, random: &mut Random) {
 }
 
 /// Every segment, set and clear, in every row and every mode.
-fn segments(comparison: &mut Comparison, random: &mut Random) {
+fn segments(comparison: &mut dyn Put, random: &mut Random) {
     for segment in 0..16 {
         for row in ROWS {
             for mode in 0..4 {
@@ -76,7 +76,7 @@ fn segments(comparison: &mut Comparison, random: &mut Random) {
 }
 
 /// One matching entry: every row, mode, CTRL and setting of its four bits.
-fn one_entry(comparison: &mut Comparison, random: &mut Random) {
+fn one_entry(comparison: &mut dyn Put, random: &mut Random) {
     for row in ROWS {
         for mode in 0..4 {
             for (ctrl, bits) in (0..8).flat_map(|ctrl| (0..16).map(move |bits| (ctrl, bits))) {
@@ -112,7 +112,7 @@ fn buffer_with_one(random: &mut Random, registers: Registers, page: u32, bits: u
 }
 
 /// A matching entry with one bit of its vpn15 or page_id turned over.
-fn single_bits(comparison: &mut Comparison, random: &mut Random) {
+fn single_bits(comparison: &mut dyn Put, random: &mut Random) {
     for row in ROWS {
         for bit in 23..44 {
             for set in 0..SETS {
@@ -133,7 +133,7 @@ fn single_bits(comparison: &mut Comparison, random: &mut Random) {
 }
 
 /// Every choice of sets that hold a matching entry, in every row, mode and CTRL.
-fn several_entries(comparison: &mut Comparison, random: &mut Random) {
+fn several_entries(comparison: &mut dyn Put, random: &mut Random) {
     for row in ROWS {
         for (mode, ctrl) in (0..4).flat_map(|mode| (0..8).map(move |ctrl| (mode, ctrl))) {
             for sets in 0..1 << SETS {
@@ -157,7 +157,7 @@ fn several_entries(comparison: &mut Comparison, random: &mut Random) {
 }
 
 /// The start buffer, with and without junk, on all low pages under the edge contexts.
-fn empty_slots(comparison: &mut Comparison, random: &mut Random) {
+fn empty_slots(comparison: &mut dyn Put, random: &mut Random) {
     for row in ROWS {
         for page in 0..80 {
             for context in [63, 63, 62, 0] {
@@ -178,7 +178,7 @@ fn empty_slots(comparison: &mut Comparison, random: &mut Random) {
 }
 
 /// A miss at every location with every draw in every row.
-fn draws(comparison: &mut Comparison, random: &mut Random) {
+fn draws(comparison: &mut dyn Put, random: &mut Random) {
     for row in ROWS {
         for location in 0..16 {
             for draw in 0..4 {

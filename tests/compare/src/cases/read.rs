@@ -3,6 +3,7 @@
 use super::{state, TOO_LARGE};
 use crate::comparison::Comparison;
 use crate::protocol::{Call, Request};
+use crate::put::Put;
 use crate::random::Random;
 use reference::Registers;
 

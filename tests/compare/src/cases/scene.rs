@@ -2,7 +2,6 @@
 
 use super::forest::{endings, Ending, Forest};
 use super::{spoil, state};
-use crate::comparison::Comparison;
 use crate::random::Random;
 use reference::*;
 
@@ -46,10 +45,10 @@ impl Scene {
     }
 }
 
-/// The words that a call finds that hands over this run, or none.
-pub fn words_found<'a>(comparison: &'a Comparison, handed: &'a [u32]) -> &'a [u32] {
+/// The words that a call finds that hands over this run, or none where one is kept.
+pub fn words_found<'a>(kept: &'a [u32], handed: &'a [u32]) -> &'a [u32] {
     match handed {
-        [] => comparison.tables(),
+        [] => kept,
         handed => handed,
     }
 }

@@ -1,5 +1,6 @@
 //! Sequences of calls from the start, each before the reader and the account.
 
+use super::steps::Steps;
 use super::tables::ask_for_tables;
 use super::world::World;
 use super::{spoil, state};
@@ -20,8 +21,7 @@ struct Sequence {
     buffer: Vec<u64>,
     reader: Reader,
     account: Rc<Account>,
-    world: World,
-    last_page: u32,
+    steps: Steps,
     touched: BTreeSet<u32>,
     /// Whether the program keeps the sequence's table run.
     run_is_kept: bool,
@@ -52,8 +52,7 @@ impl Sequence {
             buffer: started.buffer,
             reader: Reader::begin(words),
             account: Rc::new(Account::begin()),
-            last_page: world.page(random),
-            world,
+            steps: Steps::new(random, world),
             touched: BTreeSet::new(),
             run_is_kept: false,
         }
@@ -63,7 +62,11 @@ impl Sequence {
         if step.is_multiple_of(STEPS_TO_ALL_WORDS) {
             self.ask_for_words(comparison);
         }
-        let call = self.next_call(random);
+        let settings = self.reader.settings();
+        let call = self.steps.next_call(random, settings, self.reader.words());
+        if let Call::Served(_) = call {
+            self.touched.insert(self.steps.page());
+        }
         let refused = random.one_in(8);
         let mut request = match refused {
             true => self.refused_request(comparison, random, call),
@@ -74,7 +77,7 @@ impl Sequence {
         }
         let look_at = match step.is_multiple_of(STEPS_TO_ALL_PAGES) {
             true => LookAt::AllTouched(self.all_touched()),
-            false => LookAt::One(self.last_page),
+            false => LookAt::One(self.steps.page()),
         };
         let witness = self.witness(&request, look_at);
         let was_refused = matches!(witness.told, Told::Refused(_));
@@ -108,58 +111,6 @@ impl Sequence {
             registers: self.registers.to_words(),
             buffer: self.buffer.clone(),
             tables,
-        }
-    }
-
-    fn next_call(&mut self, random: &mut Random) -> Call {
-        let [kseg, _, enable, ..] = self.reader.settings();
-        if enable == 0 && random.one_in(6) {
-            return setting(2, 1);
-        }
-        if kseg != 0 && random.one_in(12) {
-            return setting(0, 0);
-        }
-        match random.below(32) {
-            0..=18 => self.next_access(random),
-            19..=24 => {
-                let (index, value) = self.world.store(random, self.reader.words());
-                Call::Store { index, value }
-            }
-            _ => self.next_setting(random),
-        }
-    }
-
-    /// Often the page of the last access again.
-    fn next_access(&mut self, random: &mut Random) -> Call {
-        if !random.one_in(3) {
-            self.last_page = self.world.page(random);
-        }
-        self.touched.insert(self.last_page);
-        Call::Served(Access {
-            address: state::address_on(random, self.last_page),
-            user: random.one_in(2),
-            write: random.one_in(2),
-            draw: random.bits(2),
-        })
-    }
-
-    /// Mostly CONTEXT and CTRL, whose inv_exc goes on and off.
-    fn next_setting(&self, random: &mut Random) -> Call {
-        let ctrl = self.reader.settings()[1];
-        match random.below(32) {
-            0..=15 => setting(5, self.world.id(random)),
-            16..=21 => setting(1, ctrl ^ 4),
-            22..=27 => setting(1, random.bits(3)),
-            28 => setting(2, random.bits(1)),
-            29 => {
-                let of_the_page = 1 << (self.last_page >> 15);
-                let values = [0, 0xFFFF, of_the_page, random.bits(16)];
-                setting(0, random.pick(&values))
-            }
-            _ => {
-                let values = [0, u32::MAX, random.bits(32)];
-                setting(3 + random.bits(1), random.pick(&values))
-            }
         }
     }
 
@@ -260,8 +211,4 @@ impl Sequence {
         };
         comparison.put_before(Some(witness), request);
     }
-}
-
-fn setting(number: u32, value: u32) -> Call {
-    Call::Setting { number, value }
 }

@@ -2,7 +2,6 @@
 
 use super::scene::{words_found, Scene};
 use super::{raw, spoil, state};
-use crate::comparison::Comparison;
 use crate::protocol::{Call, Request};
 use crate::random::Random;
 use reference::*;
@@ -21,9 +20,9 @@ pub fn request(
     }
 }
 
-pub fn random(random: &mut Random, scene: &mut Scene, comparison: &Comparison) -> Request {
+pub fn random(random: &mut Random, scene: &mut Scene, kept: &[u32]) -> Request {
     let tables = scene.next_run(random);
-    let words = words_found(comparison, &tables);
+    let words = words_found(kept, &tables);
     let (page_id, page) = scene.pick(random);
     let registers = Registers {
         kseg: random.pick(&[0, 0, 0, 0xFFFF]),

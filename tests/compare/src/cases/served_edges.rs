@@ -4,12 +4,12 @@ use super::forest::{endings, Ending, Forest};
 use super::served::{put_not_valid, request};
 use super::tables::ask_for_tables;
 use super::{raw, spoil, state, TOO_LARGE};
-use crate::comparison::Comparison;
 use crate::protocol::Call;
+use crate::put::Put;
 use crate::random::Random;
 use reference::*;
 
-pub fn put(comparison: &mut Comparison, random: &mut Random) {
+pub fn put(comparison: &mut dyn Put, random: &mut Random) {
     refusals(comparison, random);
     grounds_together(comparison, random);
     walks(comparison, random);
@@ -20,7 +20,7 @@ pub fn put(comparison: &mut Comparison, random: &mut Random) {
 }
 
 /// Accesses of a program that has not been given a run yet.
-pub fn without_run(comparison: &mut Comparison, random: &mut Random) {
+pub fn without_run(comparison: &mut dyn Put, random: &mut Random) {
     for draw in [0, 4] {
         for test in [0, 1] {
             let registers = Registers {
@@ -64,7 +64,7 @@ fn run_with_leaf(root: usize, page: u32, leaf: u32) -> Vec<u32> {
 }
 
 /// Every register edge with every length and edges of the draw.
-fn refusals(comparison: &mut Comparison, random: &mut Random) {
+fn refusals(comparison: &mut dyn Put, random: &mut Random) {
     let mut tables = run_with_leaf(62, 0x21, 0xF000_0007);
     for edge in state::register_edges(random) {
         for length in state::LENGTHS {
@@ -89,7 +89,7 @@ fn refusals(comparison: &mut Comparison, random: &mut Random) {
 }
 
 /// Every set of grounds, with table runs of every wrong length; then the run is asked for.
-fn grounds_together(comparison: &mut Comparison, random: &mut Random) {
+fn grounds_together(comparison: &mut dyn Put, random: &mut Random) {
     let all = spoil::grounds_of(Call::Served(access(random, 0, 0)));
     for choice in 1..1 << all.len() {
         let grounds: Vec<u32> = (0..all.len())
@@ -110,7 +110,7 @@ fn grounds_together(comparison: &mut Comparison, random: &mut Random) {
 
 /// Each ending of the global tree with each of the own tree, in the smallest run and in a larger
 /// one, on buffers with and without the page.
-fn walks(comparison: &mut Comparison, random: &mut Random) {
+fn walks(comparison: &mut dyn Put, random: &mut Random) {
     for global in endings() {
         for own in endings() {
             for length in [1024, random.pick(&[3072, 4096, 8192, 16384])] {
@@ -120,8 +120,17 @@ fn walks(comparison: &mut Comparison, random: &mut Random) {
     }
 }
 
+/// A few endings in a run of every length up to 16,384 words.
+pub fn every_length(comparison: &mut dyn Put, random: &mut Random) {
+    for length in (1024..=16384).step_by(1024) {
+        for own in [Ending::Leaf, Ending::AbsentLeaf] {
+            walks_ending(comparison, random, length, (Ending::AbsentRoot, own));
+        }
+    }
+}
+
 fn walks_ending(
-    comparison: &mut Comparison,
+    comparison: &mut dyn Put,
     random: &mut Random,
     length: usize,
     (global, own): (Ending, Ending),
@@ -148,7 +157,7 @@ fn walks_ending(
 }
 
 /// Every setting of a leaf's three bits in either tree, with every CTRL and every mode.
-fn leaves(comparison: &mut Comparison, random: &mut Random) {
+fn leaves(comparison: &mut dyn Put, random: &mut Random) {
     for bits in 0..8 {
         for is_global in [false, true] {
             let page = random.bits(19);
@@ -184,7 +193,7 @@ fn leaves(comparison: &mut Comparison, random: &mut Random) {
 }
 
 /// Every choice of sets that hold the page not valid, with every draw, under either inv_exc.
-fn matching_slots(comparison: &mut Comparison, random: &mut Random) {
+fn matching_slots(comparison: &mut dyn Put, random: &mut Random) {
     for ending in [Ending::Leaf, Ending::AbsentLeaf] {
         let page = state::page(random);
         let mut forest = Forest {
@@ -215,7 +224,7 @@ fn matching_slots(comparison: &mut Comparison, random: &mut Random) {
 }
 
 /// Every choice of sets that hold a matching entry, valid or not, in every CTRL.
-fn several_hits(comparison: &mut Comparison, random: &mut Random) {
+fn several_hits(comparison: &mut dyn Put, random: &mut Random) {
     let page = state::page(random);
     let mut tables = run_with_leaf(9, page, 0xF000_0001);
     for (sets, ctrl) in (0..16).flat_map(|sets| (0..8).map(move |ctrl| (sets, ctrl))) {
@@ -238,7 +247,7 @@ fn several_hits(comparison: &mut Comparison, random: &mut Random) {
 }
 
 /// Every segment, set and clear, enabled and not, in every mode.
-fn segments(comparison: &mut Comparison, random: &mut Random) {
+fn segments(comparison: &mut dyn Put, random: &mut Random) {
     for segment in 0..16 {
         let page = (segment << 15) | random.bits(15);
         let mut tables = run_with_leaf(9, page, 0xF000_0000 | random.bits(19));

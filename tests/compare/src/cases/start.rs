@@ -3,6 +3,7 @@
 use super::state;
 use crate::comparison::Comparison;
 use crate::protocol::{Call, Request};
+use crate::put::Put;
 use crate::random::Random;
 use reference::Registers;
 

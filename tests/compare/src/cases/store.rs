@@ -5,8 +5,8 @@ use super::scene::{entry_of, words_found, Scene};
 use super::tables::ask_for_tables;
 use super::words::{self, Numbers, Place};
 use super::{spoil, state};
-use crate::comparison::Comparison;
 use crate::protocol::{Call, Request};
+use crate::put::Put;
 use crate::random::Random;
 use reference::*;
 
@@ -14,9 +14,9 @@ fn request(registers: Registers, buffer: Vec<u64>, (index, value): (u32, u32)) -
     Request::without_run(Call::Store { index, value }, registers, buffer)
 }
 
-pub fn random(random: &mut Random, scene: &mut Scene, comparison: &Comparison) -> Request {
+pub fn random(random: &mut Random, scene: &mut Scene, kept: &[u32]) -> Request {
     let tables = scene.next_run(random);
-    let words = words_found(comparison, &tables);
+    let words = words_found(kept, &tables);
     let (page_id, page) = scene.pick(random);
     let place = match check_tables(words.len()) {
         Ok(()) if !random.one_in(8) => words::place(random, words, page_id, page),
@@ -51,7 +51,7 @@ pub fn random(random: &mut Random, scene: &mut Scene, comparison: &Comparison) -
 }
 
 /// Stores by a program that has not been given a run yet.
-pub fn without_run(comparison: &mut Comparison, random: &mut Random) {
+pub fn without_run(comparison: &mut dyn Put, random: &mut Random) {
     for index in [0, 63, u32::MAX] {
         let registers = state::registers(random);
         comparison.put(request(registers, state::empty_slots(), (index, 1)));
@@ -59,7 +59,7 @@ pub fn without_run(comparison: &mut Comparison, random: &mut Random) {
     ask_for_tables(comparison);
 }
 
-pub fn edges(comparison: &mut Comparison, random: &mut Random) {
+pub fn edges(comparison: &mut dyn Put, random: &mut Random) {
     refusals(comparison, random);
     grounds_together(comparison, random);
     single_bits(comparison, random);
@@ -86,7 +86,7 @@ fn full_run(random: &mut Random) -> Vec<u32> {
 const UNUSED: u32 = 100;
 
 /// Every register edge with every length and edges of the index, the run asked for in between.
-fn refusals(comparison: &mut Comparison, random: &mut Random) {
+fn refusals(comparison: &mut dyn Put, random: &mut Random) {
     let mut tables = full_run(random);
     for registers in state::register_edges(random) {
         for length in state::LENGTHS {
@@ -103,7 +103,7 @@ fn refusals(comparison: &mut Comparison, random: &mut Random) {
 }
 
 /// Every set of grounds, with table runs of every wrong length; then the run is asked for.
-fn grounds_together(comparison: &mut Comparison, random: &mut Random) {
+fn grounds_together(comparison: &mut dyn Put, random: &mut Random) {
     let all = spoil::grounds_of(Call::Store { index: 0, value: 0 });
     for choice in 1..1 << all.len() {
         let grounds: Vec<u32> = (0..all.len())
@@ -125,13 +125,14 @@ fn grounds_together(comparison: &mut Comparison, random: &mut Random) {
 }
 
 /// An agreeing number of either tree with each of its 64 bits turned over, in every set.
-fn single_bits(comparison: &mut Comparison, random: &mut Random) {
+fn single_bits(comparison: &mut dyn Put, random: &mut Random) {
     let words = full_run(random);
     let mut tables = words.clone();
     for (bit, set) in (0..64).flat_map(|bit| (0..SETS).map(move |set| (bit, set))) {
         for page in [random.bits(10), 1024 + random.bits(10)] {
             for context in [5, 6] {
-                let leaf = Leaf::of_walk(walk(&words, 5, page)).expect("a full run has the leaf");
+                let leaf =
+                    Leaf::of_walk(walk(&words[..], 5, page)).expect("a full run has the leaf");
                 let registers = Registers {
                     context,
                     ..state::registers(random)
@@ -148,7 +149,7 @@ fn single_bits(comparison: &mut Comparison, random: &mut Random) {
 }
 
 /// Each set's empty number at every slot, with and without junk, and with each bit turned over.
-fn empty_numbers(comparison: &mut Comparison, random: &mut Random) {
+fn empty_numbers(comparison: &mut dyn Put, random: &mut Random) {
     let mut tables = full_run(random);
     let mut numbers = Vec::new();
     for slot in 0..SLOTS {
@@ -170,13 +171,14 @@ fn empty_numbers(comparison: &mut Comparison, random: &mut Random) {
 }
 
 /// All 64 slots agree; then stores to every level take some, most or all of them away.
-fn full_buffers(comparison: &mut Comparison, random: &mut Random) {
+fn full_buffers(comparison: &mut dyn Put, random: &mut Random) {
     for _ in 0..20 {
         let words = full_run(random);
         let buffer: Vec<u64> = (0..SLOTS as u32)
             .map(|n| {
                 let page = 16 * random.bits(7) + n % 16;
-                let leaf = Leaf::of_walk(walk(&words, 5, page)).expect("a full run has the leaf");
+                let leaf =
+                    Leaf::of_walk(walk(&words[..], 5, page)).expect("a full run has the leaf");
                 entry_of(5, page, leaf).pack() | state::high_bits(random)
             })
             .collect();
@@ -199,9 +201,24 @@ fn full_buffers(comparison: &mut Comparison, random: &mut Random) {
     }
 }
 
+/// Stores at the end of a run of every length up to 16,384 words, and past it.
+pub fn every_length(comparison: &mut dyn Put, random: &mut Random) {
+    for length in (1024..=16384).step_by(1024) {
+        let mut tables = Forest::new(random, length).words;
+        let length = length as u32;
+        for index in [0, 63, length - 1, length, random.bits(10)] {
+            let buffer = state::buffer(random, SLOTS);
+            comparison.put(Request {
+                tables: std::mem::take(&mut tables),
+                ..request(state::registers(random), buffer, (index, random.bits(32)))
+            });
+        }
+    }
+}
+
 /// Each ending of either tree in the smallest run, with stores at its end, past it and to the words
 /// that the page's walk asks.
-fn smallest_run(comparison: &mut Comparison, random: &mut Random) {
+fn smallest_run(comparison: &mut dyn Put, random: &mut Random) {
     for (global, own) in endings()
         .into_iter()
         .flat_map(|global| endings().into_iter().map(move |own| (global, own)))

@@ -4,6 +4,7 @@ use super::forest::{endings, Ending, Forest};
 use super::state;
 use crate::comparison::Comparison;
 use crate::protocol::{Call, Request};
+use crate::put::Put;
 use crate::random::Random;
 use reference::{Registers, GLOBAL_ROOT};
 

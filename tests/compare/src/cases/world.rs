@@ -16,11 +16,23 @@ impl World {
     /// A world, and the table run that it begins with.
     pub fn new(random: &mut Random) -> (World, Vec<u32>) {
         let length = 1024 * random.pick(&[1, 2, 3, 4, 4, 4, 4, 4, 8, 16]);
-        let locations = [random.below(16) as u32, random.below(16) as u32];
+        let size = size(random);
+        let world = World::of(random, length, size);
+        let mut forest = Forest::new(random, length);
+        if random.one_in(2) {
+            forest.words.fill(0);
+        }
+        world.plant(random, &mut forest.words);
+        (world, forest.words)
+    }
+
+    /// So many pages at so many locations, with directories and tables inside a run of this length.
+    pub fn of(random: &mut Random, length: usize, (pages, locations): (usize, usize)) -> World {
+        let locations: Vec<u32> = (0..locations).map(|_| random.bits(4)).collect();
         let tops = [random.bits(9), random.bits(9)];
-        let world = World {
+        World {
             ids: vec![0, 62, random.below(63) as u32, random.below(63) as u32],
-            pages: (0..10)
+            pages: (0..pages)
                 .map(|_| {
                     let low = 16 * random.bits(6) + random.pick(&locations);
                     1024 * random.pick(&tops) + low
@@ -30,18 +42,12 @@ impl World {
                 true => apart(),
                 false => Numbers::inside(random, length),
             },
-        };
-        let mut forest = Forest::new(random, length);
-        if random.one_in(2) {
-            forest.words.fill(0);
         }
-        world.plant(random, &mut forest.words);
-        (world, forest.words)
     }
 
     /// Roots that share two directories, which share tables. The global tree has some of the
     /// pages, mostly through a directory of its own.
-    fn plant(&self, random: &mut Random, words: &mut [u32]) {
+    pub fn plant(&self, random: &mut Random, words: &mut [u32]) {
         let Numbers {
             directories,
             tables,
@@ -105,6 +111,14 @@ impl World {
         };
         let value = words::value(random, words, place, &self.numbers);
         (place.index as u32, value)
+    }
+}
+
+/// Pages and locations: few that collide, or many that a store takes away together.
+pub fn size(random: &mut Random) -> (usize, usize) {
+    match random.one_in(3) {
+        true => (48, 16),
+        false => (10, 2),
     }
 }
 

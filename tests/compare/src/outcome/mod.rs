@@ -1,15 +1,15 @@
 //! The outcomes a case belongs to, by what the reference says of it.
 
-mod raw;
+pub mod raw;
 mod read;
-mod refused;
-mod served;
-mod setting;
+pub mod refused;
+pub mod served;
+pub mod setting;
 mod start;
-mod store;
+pub mod store;
 mod sweep;
 mod tables;
-mod walk;
+pub mod walk;
 mod write;
 
 use crate::protocol::{Answer, Call, Request};
@@ -53,7 +53,12 @@ pub fn of(request: &Request, runs: Runs, expected: &Answer) -> Vec<String> {
         }
         Call::Read { number } => read::of(registers, buffer, number, refused_with),
         Call::Walk { page_id, vpn } => walk::of(runs.before, page_id, vpn),
-        Call::Served(access) => served::of(&Served::new(request, runs.before, access, expected)),
+        Call::Served(access) => served::of(&Served::new(
+            (registers, buffer),
+            runs.before,
+            access,
+            expected,
+        )),
         Call::Store { index, value } => {
             store::of(registers, buffer, runs, (index, value), expected)
         }
@@ -69,9 +74,12 @@ pub fn in_sequence(request: &Request, runs: Runs, expected: &Answer) -> Vec<Stri
     let registers = Registers::from_words(request.registers);
     let buffer = &request.buffer;
     match request.call {
-        Call::Served(access) => {
-            served::in_sequence(&Served::new(request, runs.before, access, expected))
-        }
+        Call::Served(access) => served::in_sequence(&Served::new(
+            (registers, buffer),
+            runs.before,
+            access,
+            expected,
+        )),
         Call::Store { index, value } => {
             store::in_sequence(registers, buffer, runs, (index, value), expected)
         }

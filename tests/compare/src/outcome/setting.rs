@@ -20,18 +20,24 @@ pub fn all() -> Vec<String> {
     let mut all = Vec::new();
     for call in [CALL, IN_SEQUENCE] {
         all.extend(refused::all_sets_of_grounds(call, &GROUNDS));
-        for (number, largest) in (0..).zip(LARGEST) {
-            all.extend([0, largest].map(|value| accepted(call, number, value)));
-            all.extend(largest.checked_add(1).map(|_| just_above(call, number)));
-        }
-        let between = [0, 1, 3, 4, 5].map(|number| accepted(call, number, 2));
-        all.extend(between);
-        all.extend([64, 65, u32::MAX].map(|value| switch(call, value)));
+        all.extend(all_values(call));
         all.extend((6..10).map(|number| unknown(call, number)));
         all.extend(refused::all_unknown_numbers(call));
     }
     all.extend(refused::all_fields(CALL));
     all.extend([OTHER_LENGTH, OTHER_RUN, TEST_MODE, UNDER_63].map(String::from));
+    all
+}
+
+/// Values around the largest that each setting takes.
+pub fn all_values(call: &str) -> Vec<String> {
+    let mut all = Vec::new();
+    for (number, largest) in (0..).zip(LARGEST) {
+        all.extend([0, largest].map(|value| accepted(call, number, value)));
+        all.extend(largest.checked_add(1).map(|_| just_above(call, number)));
+    }
+    all.extend([0, 1, 3, 4, 5].map(|number| accepted(call, number, 2)));
+    all.extend([64, 65, u32::MAX].map(|value| switch(call, value)));
     all
 }
 
@@ -66,7 +72,7 @@ pub fn in_sequence(
     of_either(IN_SEQUENCE, &grounds, (number, value), expected)
 }
 
-fn grounds(registers: Registers, number: u32, value: u32) -> Vec<u32> {
+pub fn grounds(registers: Registers, number: u32, value: u32) -> Vec<u32> {
     refused::grounds(&[
         check_registers(registers),
         check_switch(number, value),
@@ -75,7 +81,7 @@ fn grounds(registers: Registers, number: u32, value: u32) -> Vec<u32> {
 }
 
 /// The outcomes that happen in a sequence as well as outside.
-fn of_either(
+pub fn of_either(
     call: &str,
     grounds: &[u32],
     (number, value): (u32, u32),

@@ -19,9 +19,12 @@ const LARGEST_INDEX: &str = "table store refused 6, index 4294967295";
 const NO_WORDS: &str = "table store refused 3, grounds 3 6, run of no words";
 const LAST_WORD: &str = "table store to the last word of the run";
 
+/// One of each number of slots that is told apart.
+pub const EMPTIED: [u32; 5] = [0, 1, 2, 10, 16];
+
 /// What a word is to the walks before the store.
 #[derive(Clone, Copy, PartialEq, Eq)]
-enum Target {
+pub enum Target {
     Root,
     GlobalRoot,
     Directory,
@@ -71,13 +74,20 @@ pub fn all() -> Vec<String> {
 /// The outcomes that have to happen outside sequences and in them.
 fn of_each(call: &str) -> Vec<String> {
     let mut all = refused::all_sets_of_grounds(call, &GROUNDS);
+    all.extend(all_accepted(call));
+    all
+}
+
+/// The outcomes of accepted stores that sequences lead to.
+pub fn all_accepted(call: &str) -> Vec<String> {
+    let mut all = Vec::new();
     for target in TARGETS {
         all.push(to(call, target));
         if target != Target::Unused {
             all.push(to_and_empties(call, target));
         }
     }
-    all.extend((0..3).map(|emptied| empties(call, emptied)));
+    all.extend(EMPTIED.map(|emptied| empties(call, emptied)));
     all.extend([every_used(call), same_value(call), several_ids(call)]);
     all.extend(
         sweep::all_in_sequence()
@@ -101,7 +111,8 @@ pub fn of(
     outcomes.extend(refused::of_run(CALL, length, &grounds));
     let emptied = expected.words[1];
     if grounds.is_empty() {
-        outcomes.extend(of_accepted(CALL, buffer, runs, index, expected));
+        let written = Written::by(runs, index);
+        outcomes.extend(of_accepted(CALL, buffer, written, expected));
         let all = all_judged(registers, buffer, runs.after);
         if length == SMALLEST_RUN {
             outcomes.push(smallest_run(CALL));
@@ -144,10 +155,18 @@ pub fn in_sequence(
         let number = expected.words[1];
         return vec![refused::set_of_grounds(IN_SEQUENCE, &grounds, number)];
     }
-    let mut outcomes = of_accepted(IN_SEQUENCE, buffer, runs, index, expected);
-    let all = all_judged(registers, buffer, runs.after);
-    outcomes.extend(all.into_iter().map(|why| judged(IN_SEQUENCE, why)));
+    let written = Written::by(runs, index);
+    let mut outcomes = of_accepted(IN_SEQUENCE, buffer, written, expected);
+    outcomes.extend(of_sweep(IN_SEQUENCE, registers, buffer, runs.after));
     outcomes
+}
+
+/// What the sweep of these words does with the slots.
+pub fn of_sweep(call: &str, registers: Registers, buffer: &[u64], words: &[u32]) -> Vec<String> {
+    all_judged(registers, buffer, words)
+        .into_iter()
+        .map(|why| judged(call, why))
+        .collect()
 }
 
 fn grounds(registers: Registers, buffer: &[u64], length: usize, index: u32) -> Vec<u32> {
@@ -159,20 +178,35 @@ fn grounds(registers: Registers, buffer: &[u64], length: usize, index: u32) -> V
     ])
 }
 
-fn of_accepted(
+/// The word that an accepted store writes.
+#[derive(Clone, Copy)]
+pub struct Written {
+    pub target: Target,
+    pub is_same: bool,
+}
+
+impl Written {
+    fn by(runs: Runs, index: u32) -> Written {
+        let index = index as usize;
+        Written {
+            target: target(runs.before, index),
+            is_same: runs.before[index] == runs.after[index],
+        }
+    }
+}
+
+pub fn of_accepted(
     call: &str,
     buffer: &[u64],
-    runs: Runs,
-    index: u32,
+    Written { target, is_same }: Written,
     expected: &Answer,
 ) -> Vec<String> {
     let emptied = expected.words[1];
-    let target = target(runs.before, index as usize);
     let mut outcomes = vec![to(call, target), empties(call, emptied)];
     if emptied > 0 {
         outcomes.push(to_and_empties(call, target));
     }
-    if runs.before[index as usize] == runs.after[index as usize] {
+    if is_same {
         outcomes.push(same_value(call));
     }
     let gone: Vec<Entry> = (0..SLOTS)
@@ -203,7 +237,7 @@ fn all_judged(registers: Registers, buffer: &[u64], words: &[u32]) -> Vec<Judged
     all
 }
 
-fn target(words: &[u32], index: usize) -> Target {
+pub fn target(words: &[u32], index: usize) -> Target {
     let directories: Vec<usize> = words[..64]
         .iter()
         .filter_map(|&root| stretch(words, root, 512))
@@ -250,12 +284,15 @@ fn to_and_empties(call: &str, target: Target) -> String {
     format!("{call} to {}, empties slots", name(target))
 }
 
-fn empties(call: &str, emptied: u32) -> String {
-    match emptied {
-        0 => format!("{call} empties no slot"),
-        1 => format!("{call} empties 1 slot"),
-        _ => format!("{call} empties 2 slots or more"),
-    }
+pub fn empties(call: &str, emptied: u32) -> String {
+    let slots = match emptied {
+        0 => "no slot",
+        1 => "1 slot",
+        2..=9 => "2 to 9 slots",
+        10..=15 => "10 to 15 slots",
+        _ => "16 slots or more",
+    };
+    format!("{call} empties {slots}")
 }
 
 fn every_used(call: &str) -> String {

@@ -160,7 +160,7 @@ fn own_absent(level: Level, global: Level) -> String {
     format!("walk, absent at {level}, global absent at {global}")
 }
 
-fn broken(tree: Tree, level: Level, why: WhyBroken) -> String {
+pub fn broken(tree: Tree, level: Level, why: WhyBroken) -> String {
     let tree = match tree {
         Tree::Global => "global",
         Tree::Own => "own",
@@ -174,16 +174,16 @@ fn broken(tree: Tree, level: Level, why: WhyBroken) -> String {
     format!("walk, broken at {} of the {tree} tree, {why}", name(level))
 }
 
-fn single_bit(level: Level, bit: u32) -> String {
+pub fn single_bit(level: Level, bit: u32) -> String {
     format!("walk, broken at {} by bit {bit} alone", name(level))
 }
 
-fn begins_at_end(level: Level) -> String {
+pub fn begins_at_end(level: Level) -> String {
     let level = name(level);
     format!("walk, broken at {level}, stretch begins at the run's end")
 }
 
-fn ends_at_end(level: Level) -> String {
+pub fn ends_at_end(level: Level) -> String {
     let stretch = match level {
         Level::Leaf => "table",
         _ => "directory",

@@ -1,11 +1,11 @@
 //! Outcomes of a served access.
 
 mod outside;
-mod path;
+pub mod path;
 mod smallest_run;
 
 use super::refused;
-use crate::protocol::{Answer, Request};
+use crate::protocol::Answer;
 use reference::*;
 
 const CALL: &str = "served access";
@@ -27,14 +27,14 @@ pub struct Served<'a> {
 
 impl<'a> Served<'a> {
     pub fn new(
-        request: &'a Request,
+        (registers, buffer): (Registers, &'a [u64]),
         words: &'a [u32],
         access: Access,
         expected: &'a Answer,
     ) -> Served<'a> {
         Served {
-            registers: Registers::from_words(request.registers),
-            buffer: &request.buffer,
+            registers,
+            buffer,
             words,
             access,
             expected,

@@ -36,7 +36,9 @@ pub fn all(call: &str) -> Vec<String> {
         add(mode_name(mode == 1 || mode == 3, mode >= 2));
     }
     for path in [
+        "hit on a global entry",
         "hit on a global entry of another page_id",
+        "hit on an own entry",
         "broken global tree over an own leaf",
         "load of an own leaf",
         "load of a global leaf",
@@ -88,7 +90,12 @@ pub fn of(call: &str, served: &Served) -> Vec<String> {
         Translation::Linear { .. } => paths.push("linear".to_string()),
         Translation::OneHit { slot, value, .. } => {
             paths.push(first_try_hits(value));
-            if Entry::unpack(served.buffer[slot]).page_id != registers.context {
+            let entry = Entry::unpack(served.buffer[slot]);
+            paths.push(match entry.global {
+                true => "hit on a global entry".to_string(),
+                false => "hit on an own entry".to_string(),
+            });
+            if entry.page_id != registers.context {
                 paths.push("hit on a global entry of another page_id".to_string());
             }
         }

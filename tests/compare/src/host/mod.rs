@@ -1,0 +1,37 @@
+//! The C calls, put to tests/host.
+//!
+//! Every edge case is put whatever the number of cases; random ones fill it up.
+
+mod case;
+mod comparison;
+mod difference;
+mod layout;
+mod lengths;
+mod outcome;
+
+use crate::cases;
+use crate::cases::scene::Scene;
+use crate::put::Put;
+use crate::random::Random;
+use comparison::Comparison;
+
+pub const CASES: usize = 60_000;
+
+pub fn compare(program: &str, seed: u64, number: usize) -> Result<bool, String> {
+    let mut random = Random::new(seed);
+    let mut comparison = Comparison::start(program)?;
+    cases::c_edges(&mut comparison, &mut random);
+    lengths::edges(&mut comparison, &mut random);
+    let mut scene = Scene::default();
+    while comparison.wants_more(number) {
+        match random.one_in(8) {
+            true => comparison.put_case(lengths::random(&mut random)),
+            false => {
+                let tables = comparison.tables();
+                let request = cases::any_c_call(&mut random, &mut scene, tables);
+                comparison.put(request);
+            }
+        }
+    }
+    Ok(comparison.finish())
+}

@@ -1,0 +1,146 @@
+//! Makes one of the calls over words so many times, to be timed from outside.
+//!
+//! Standard input is a scenario and a count, two words of 32 bits; standard output the sum of the
+//! answers, modulo 2^64; both most significant byte first.
+
+use reference::*;
+use std::io::{self, Error, Read, Write};
+
+const TABLE_WORDS: usize = 16384;
+const OWN_ROOT: u32 = 5;
+const OWN_DIRECTORY: u32 = 512;
+const FIRST_LEAF: u32 = 1024;
+const LEAF: u32 = 0xD000_0100;
+
+/// A root or directory word that names number 1.
+const NAMES_FIRST: u32 = 0x8000_0001;
+
+/// Pages with a leaf: five for each location, one more than it has slots.
+const PAGES: u32 = 80;
+const PAGE_BYTES: u32 = 8192;
+
+/// Number and value of each guarded setting: CTRL, CONTEXT, ENABLE.
+const SETTINGS: [(u32, u32); 3] = [(1, 7), (5, OWN_ROOT), (2, 1)];
+
+struct Unit {
+    registers: Registers,
+    buffer: [u64; SLOTS],
+    words: Vec<u32>,
+}
+
+impl Unit {
+    /// Every slot holds one of the first 64 pages.
+    fn prepared() -> Unit {
+        let mut buffer = [0; SLOTS];
+        let (_, registers) = start(&mut buffer);
+        let mut unit = Unit {
+            registers,
+            buffer,
+            words: vec![0; TABLE_WORDS],
+        };
+        unit.store(OWN_ROOT, NAMES_FIRST);
+        unit.store(OWN_DIRECTORY, NAMES_FIRST);
+        for page in 0..PAGES {
+            unit.store(FIRST_LEAF + page, LEAF + page);
+        }
+        for (number, value) in SETTINGS {
+            unit.registers = guarded_setting(unit.registers, number, value).registers;
+        }
+        for page in 0..SLOTS as u32 {
+            unit.serve(page * PAGE_BYTES, page / 16);
+        }
+        unit
+    }
+
+    fn access(&mut self, address: u32) -> u64 {
+        let (answer, registers) = raw_access(self.registers, &self.buffer, user_read(address, 0));
+        self.registers = registers;
+        match answer {
+            Ok(answer) => answer.address.unwrap_or(0).into(),
+            Err(refusal) => worth(Outcome::Refused(refusal)),
+        }
+    }
+
+    fn serve(&mut self, address: u32, draw: u32) -> u64 {
+        let access = user_read(address, draw);
+        let reply = served_access(self.registers, &mut self.buffer, &self.words, access);
+        self.take(reply)
+    }
+
+    fn store(&mut self, index: u32, value: u32) -> u64 {
+        let (buffer, words) = (&mut self.buffer, &mut self.words);
+        let reply = table_store(self.registers, buffer, words, index, value);
+        self.take(reply)
+    }
+
+    fn take(&mut self, reply: Reply) -> u64 {
+        self.registers = reply.registers;
+        worth(reply.outcome) + u64::from(reply.loads)
+    }
+}
+
+fn user_read(address: u32, draw: u32) -> Access {
+    Access {
+        address,
+        user: true,
+        write: false,
+        draw,
+    }
+}
+
+/// What an outcome adds to the sum.
+fn worth(outcome: Outcome) -> u64 {
+    match outcome {
+        Outcome::At(address) => address.into(),
+        Outcome::Fault(value) => value.into(),
+        Outcome::Done(emptied) => u64::from(emptied) + 1,
+        Outcome::Refused(refusal) => 1_000_000 * u64::from(refusal.number()),
+    }
+}
+
+/// A page that has a slot, all 64 of them in turn.
+fn held_address(i: u32) -> u32 {
+    (7 * (i % 64)) % 64 * PAGE_BYTES + 0x123
+}
+
+/// The page that lost its slot longest ago, and the draw that takes the oldest slot from another.
+fn missing(i: u32) -> (u32, u32) {
+    let page = (64 + i % PAGES) % PAGES;
+    (page * PAGE_BYTES, i / 16 % 4)
+}
+
+/// A leaf that changes in its software bits alone.
+fn restored(i: u32) -> (u32, u32) {
+    let page = i % 64;
+    let software = i / 64 % 512;
+    (FIRST_LEAF + page, LEAF + page + (software << 19))
+}
+
+fn sum(count: u32, worth: impl FnMut(u32) -> u64) -> u64 {
+    (0..count).map(worth).fold(0, u64::wrapping_add)
+}
+
+fn sum_of(scenario: u32, count: u32) -> io::Result<u64> {
+    let mut unit = Unit::prepared();
+    Ok(match scenario {
+        0 => sum(count, |i| unit.access(held_address(i))),
+        1 => sum(count, |i| unit.serve(held_address(i), 0)),
+        2 => sum(count, |i| {
+            let (address, draw) = missing(i);
+            unit.serve(address, draw)
+        }),
+        3 => sum(count, |i| {
+            let (index, value) = restored(i);
+            unit.store(index, value)
+        }),
+        _ => return Err(Error::other("the scenario is 0 to 3")),
+    })
+}
+
+fn main() -> io::Result<()> {
+    let mut request = [0; 8];
+    io::stdin().read_exact(&mut request)?;
+    let request = u64::from_be_bytes(request);
+    let sum = sum_of((request >> 32) as u32, request as u32)?;
+    io::stdout().write_all(&sum.to_be_bytes())
+}

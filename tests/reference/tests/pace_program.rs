@@ -1,0 +1,63 @@
+//! The program that is timed: its sums, by their formulas.
+
+use std::io::{Read, Write};
+use std::process::{Command, Stdio};
+
+/// What the program writes, or none where it ends badly.
+fn sum(scenario: u32, count: u32) -> Option<u64> {
+    let mut child = Command::new(env!("CARGO_BIN_EXE_pace"))
+        .stdin(Stdio::piped())
+        .stdout(Stdio::piped())
+        .stderr(Stdio::null())
+        .spawn()
+        .expect("the program starts");
+    let mut input = child.stdin.take().expect("the input is a pipe");
+    let request = [scenario.to_be_bytes(), count.to_be_bytes()].concat();
+    input.write_all(&request).expect("the program reads");
+    drop(input);
+    let mut written = Vec::new();
+    let mut output = child.stdout.take().expect("the output is a pipe");
+    output
+        .read_to_end(&mut written)
+        .expect("the program writes");
+    let ended_well = child.wait().expect("the program ends").success();
+    match ended_well {
+        true => Some(u64::from_be_bytes(written.try_into().expect("8 bytes"))),
+        false => None,
+    }
+}
+
+/// The frames' first addresses of the pages below a number, added up.
+fn frames(pages: u64) -> u64 {
+    (0..pages).map(|page| (0x100 + page) * 8192).sum()
+}
+
+#[test]
+fn nothing_is_added_for_no_calls() {
+    for scenario in 0..4 {
+        assert_eq!(sum(scenario, 0), Some(0), "{scenario}");
+    }
+    assert_eq!(sum(4, 0), None);
+}
+
+#[test]
+fn hits_add_the_addresses_and_no_load() {
+    let once = frames(64) + 64 * 0x123;
+    for scenario in [0, 1] {
+        assert_eq!(sum(scenario, 64), Some(once), "{scenario}");
+        assert_eq!(sum(scenario, 6400), Some(100 * once), "{scenario}");
+    }
+    assert_eq!(sum(0, 2), Some(2 * 0x123 + (0x200 + 7) * 8192));
+}
+
+#[test]
+fn every_access_of_80_pages_in_turn_is_a_load() {
+    assert_eq!(sum(2, 1), Some((0x100 + 64) * 8192 + 1));
+    assert_eq!(sum(2, 80), Some(frames(80) + 80));
+    assert_eq!(sum(2, 8000), Some(100 * (frames(80) + 80)));
+}
+
+#[test]
+fn stores_of_software_bits_empty_nothing() {
+    assert_eq!(sum(3, 100_000), Some(100_000));
+}
