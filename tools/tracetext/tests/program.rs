@@ -1,0 +1,137 @@
+//! The program as a user meets it: files, standard input and output, messages and exit status.
+
+use std::fs;
+use std::io::Write;
+use std::path::PathBuf;
+use std::process::{Command, Stdio};
+
+/// What a run gave: exit status, standard output, standard error.
+type Run = (i32, Vec<u8>, String);
+
+fn run(arguments: &[&str], input: &[u8]) -> Run {
+    let mut child = Command::new(env!("CARGO_BIN_EXE_tracetext"))
+        .args(arguments)
+        .stdin(Stdio::piped())
+        .stdout(Stdio::piped())
+        .stderr(Stdio::piped())
+        .spawn()
+        .unwrap();
+    // A program that does not read its input may be gone by now.
+    let _ = child.stdin.take().unwrap().write_all(input);
+    let output = child.wait_with_output().unwrap();
+    let errors = String::from_utf8(output.stderr).unwrap();
+    (output.status.code().unwrap(), output.stdout, errors)
+}
+
+/// A file of this test's own folder with these bytes.
+fn file(name: &str, bytes: &[u8]) -> PathBuf {
+    let path = PathBuf::from(env!("CARGO_TARGET_TMPDIR")).join(name);
+    fs::write(&path, bytes).unwrap();
+    path
+}
+
+const BYTES: [u8; 8] = [0x10, 0, 0, 5, 0x80, 0, 0, 1];
+
+#[test]
+fn standard_input_and_output() {
+    let good = |out: &[u8]| (0, out.to_vec(), String::new());
+    assert_eq!(run(&["encode"], b"store 5 80000001\n"), good(&BYTES));
+    assert_eq!(run(&["decode"], &BYTES), good(b"store 5 80000001\n"));
+    assert_eq!(run(&["encode"], b""), good(b""));
+    assert_eq!(run(&["decode"], b""), good(b""));
+}
+
+#[test]
+fn files() {
+    let text = file("files.text", b"store 5 80000001 # a root\n");
+    let trace = file("files.trace", &BYTES);
+    let (status, out, errors) = run(&["encode", text.to_str().unwrap()], b"ctrl 1\n");
+    assert_eq!((status, out, errors.as_str()), (0, BYTES.to_vec(), ""));
+    let (status, out, errors) = run(&["decode", trace.to_str().unwrap()], b"");
+    assert_eq!((status, errors.as_str()), (0, ""));
+    assert_eq!(out, b"store 5 80000001\n");
+}
+
+#[test]
+fn errors_of_the_text_leave_the_output_empty() {
+    let text = b"enable 1\n\nstore 5\nread user 0 draw 4\ncontext 8G\n";
+    let errors = "tracetext: line 3: store takes an index and a value\n\
+                  tracetext: line 4: draw 4 is above 3\n\
+                  tracetext: line 5: 8G is no hexadecimal number\n";
+    assert_eq!(run(&["encode"], text), (1, vec![], errors.to_string()));
+}
+
+#[test]
+fn usage() {
+    let calls: [&[&str]; 6] = [
+        &[],
+        &["--help"],
+        &["Encode"],
+        &["encode", "a", "b"],
+        &["decode", "a", "b"],
+        &["recode", "a"],
+    ];
+    for call in calls {
+        let (status, out, errors) = run(call, b"");
+        assert_eq!((status, out), (2, vec![]), "{call:?}");
+        assert!(
+            errors.starts_with("usage: tracetext encode [FILE]"),
+            "{errors}"
+        );
+    }
+}
+
+#[test]
+fn a_failed_read_is_reported() {
+    let (status, out, errors) = run(&["encode", "no/such/file"], b"enable 1\n");
+    assert_eq!((status, out), (1, vec![]));
+    assert!(
+        errors.starts_with("tracetext: cannot read no/such/file: "),
+        "{errors}"
+    );
+    let (status, out, errors) = run(&["decode", "/"], b"");
+    assert_eq!((status, out), (1, vec![]));
+    assert!(errors.starts_with("tracetext: cannot read /: "), "{errors}");
+    // Standard input that is a folder cannot be read.
+    let output = Command::new(env!("CARGO_BIN_EXE_tracetext"))
+        .arg("encode")
+        .stdin(fs::File::open("/").unwrap())
+        .output()
+        .unwrap();
+    let errors = String::from_utf8(output.stderr).unwrap();
+    assert_eq!(output.status.code(), Some(1));
+    assert!(
+        errors.starts_with("tracetext: cannot read standard input: "),
+        "{errors}"
+    );
+}
+
+#[test]
+fn a_failed_write_is_reported() {
+    let trace = file("full.trace", &BYTES);
+    for direction in ["encode", "decode"] {
+        let input = if direction == "encode" {
+            file("full.text", b"enable 1")
+        } else {
+            trace.clone()
+        };
+        let output = Command::new(env!("CARGO_BIN_EXE_tracetext"))
+            .arg(direction)
+            .arg(input)
+            .stdout(
+                fs::OpenOptions::new()
+                    .write(true)
+                    .open("/dev/full")
+                    .unwrap(),
+            )
+            .stderr(Stdio::piped())
+            .output()
+            .unwrap();
+        let errors = String::from_utf8(output.stderr).unwrap();
+        assert_eq!(output.status.code(), Some(1), "{direction}");
+        assert!(
+            errors.starts_with("tracetext: cannot write standard output: "),
+            "{errors}"
+        );
+    }
+}
