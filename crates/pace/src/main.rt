@@ -1,0 +1,189 @@
+// Makes one of the unit's calls many times: what the measurements drive. Standard input has a scenario and a count, two words of four
+// bytes; standard output gets the sum of the answers, eight bytes. tests/PROTOCOL.md gives the scenarios.
+ghost use Prim.Native.Nat.{_≤_, _<_};
+use access::Physical;
+use mmu::RawReply;
+use registers::Access;
+use registers::Outcome;
+use registers::Registers;
+use registers::Reply;
+
+// What an answer adds to the sum.
+fn worth(outcome: Outcome) -> u64 {
+    match outcome {
+        Outcome::At(address) => address as u64,
+        Outcome::Fault(value) => value as u64,
+        Outcome::Done(value) => value as u64 + 1,
+        Outcome::Refused(number) => 1000000 * number as u64,
+    }
+}
+
+fn counted(sum: u64, reply: Reply) -> u64 {
+    let outcome = reply.outcome;
+    let more = std::num::wrapping_add_u64(worth(outcome), reply.loads as u64);
+    std::num::wrapping_add_u64(sum, more)
+}
+
+// A user's read of a page.
+fn reading(page: u32, offset: u32, draw: u32) -> Access
+    requires { ⌜ (page < 524288) × (offset < 8192) ⌝ }
+{
+    Access {
+        address: page * 8192 + offset,
+        user: true,
+        write: false,
+        draw,
+    }
+}
+
+// Scenario 2 takes 80 pages in turn, so that each one misses; the others 64, which are all in the buffer.
+fn access_of(scenario: u32, i: u64) -> Access
+    requires { ⌜ i < 4294967296 ⌝ }
+{
+    if scenario == 2 {
+        return reading(((64 + i) % 80) as u32, 0, ((i / 16) % 4) as u32);
+    }
+    reading(((7 * i) % 64) as u32, 291, 0)
+}
+
+fn address_of(physical: Physical) -> u64 {
+    match physical {
+        Physical::Address(address) => address as u64,
+        Physical::None => 0,
+    }
+}
+
+// Scenario 0: raw accesses. One that is refused ends them.
+fn run_raw(r: Registers, buffer: &[u64], count: u32) -> u64 {
+    let mut registers = r;
+    let mut sum: u64 = 0;
+    let mut i: u64 = 0;
+    while i < count as u64 {
+        let a = access_of(0, i);
+        let reply = mmu::raw_access(registers, buffer, a.address, a.user, a.write, a.draw);
+        let RawReply::Answered(t) = reply else {
+            return 0;
+        };
+        let physical = t.physical;
+        sum = std::num::wrapping_add_u64(sum, address_of(physical));
+        registers = t.registers;
+        i += 1;
+    }
+    sum
+}
+
+// Scenarios 1 and 2: served accesses.
+fn run_served(r: Registers, buffer: &mut [u64], words: &[u32], scenario: u32, count: u32) -> u64 {
+    let mut registers = r;
+    let mut sum: u64 = 0;
+    let mut i: u64 = 0;
+    while i < count as u64 {
+        let a = access_of(scenario, i);
+        let reply = mmu::served_access(
+            registers,
+            buffer,
+            words,
+            a.address,
+            a.user,
+            a.write,
+            a.draw,
+        );
+        sum = counted(sum, reply);
+        registers = reply.registers;
+        i += 1;
+    }
+    sum
+}
+
+// Scenario 3: stores that change software bits alone.
+fn run_stores(r: Registers, buffer: &mut [u64], words: &mut [u32], count: u32) -> u64 {
+    let mut sum: u64 = 0;
+    let mut i: u64 = 0;
+    while i < count as u64 {
+        let page = (i % 64) as u32;
+        let software = ((i / 64) % 512) as u32;
+        let value = 3489661184 + page + software * 524288;
+        let reply = store::table_store(r, buffer, words, 1024 + page, value);
+        sum = counted(sum, reply);
+        i += 1;
+    }
+    sum
+}
+
+fn run(r: Registers, buffer: &mut [u64], words: &mut [u32], scenario: u32, count: u32) -> u64 {
+    if scenario == 0 {
+        return run_raw(r, buffer, count);
+    }
+    if scenario == 3 {
+        return run_stores(r, buffer, words, count);
+    }
+    run_served(r, buffer, words, scenario, count)
+}
+
+// The tables of identification 5: a directory, a table, and 80 pages.
+fn build(r: Registers, buffer: &mut [u64], words: &mut [u32]) {
+    store::table_store(r, buffer, words, 5, 2147483649);
+    store::table_store(r, buffer, words, 512, 2147483649);
+    let mut page: u32 = 0;
+    while page < 80 {
+        store::table_store(r, buffer, words, 1024 + page, 3489661184 + page);
+        page += 1;
+    }
+}
+
+// CTRL 7, CONTEXT 5, ENABLE 1.
+fn settings(r: Registers) -> Registers {
+    let first = control::guarded_setting(r, 1, 7);
+    let controlled = first.registers;
+    let second = control::guarded_setting(controlled, 5, 5);
+    let switched = second.registers;
+    let third = control::guarded_setting(switched, 2, 1);
+    third.registers
+}
+
+// Pages 0 to 63, one in each slot.
+fn fill(r: Registers, buffer: &mut [u64], words: &[u32]) -> Registers {
+    let mut registers = r;
+    let mut page: u32 = 0;
+    while page < 64 {
+        let a = reading(page, 0, page / 16);
+        let reply = mmu::served_access(
+            registers,
+            buffer,
+            words,
+            a.address,
+            a.user,
+            a.write,
+            a.draw,
+        );
+        registers = reply.registers;
+        page += 1;
+    }
+    registers
+}
+
+fn prepare(buffer: &mut [u64], words: &mut [u32]) -> Registers {
+    let started = control::start(buffer);
+    let r = started.registers;
+    build(r, buffer, words);
+    let enabled = settings(r);
+    fill(enabled, buffer, words)
+}
+
+fn pace(buffer: &mut [u64], words: &mut [u32]) {
+    let mut bytes = [0u8; 8];
+    io::read_full(0, &mut bytes);
+    let scenario = wire::word_at(&bytes, 0);
+    let count = wire::word_at(&bytes, 1);
+    let r = prepare(buffer, words);
+    let sum = run(r, buffer, words, scenario, count);
+    let mut answer = [0u8; 8];
+    wire::put_number(&mut answer, 0, sum);
+    io::write_all(1, &answer);
+}
+
+fn main() {
+    let mut buffer = [0u64; 64];
+    let mut words: [u32; 16384] = [0; 16384];
+    pace(&mut buffer, &mut words);
+}
