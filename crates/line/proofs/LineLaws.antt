@@ -51,7 +51,8 @@ module _ (run : List ℕ) (at number : ℕ) (outcome : Outcome) (h : at + 37 ≤
   pub word-room : (b : ℕ) (r : List ℕ) → TextPut run at (decimal number) b r → b + 9 ≤ length r
   word-room b r p = room run at (decimal number) 20 b r 9 (number-stage b r p) (omega arith)
 
-  module _ (b : ℕ) (r : List ℕ) (b′ : ℕ) (r′ : List ℕ) (p : TextPut run at (decimal number) b r) (q : TextPut r b (wordOf outcome) b′ r′) where
+  module _ (b : ℕ) (r : List ℕ) (b′ : ℕ) (r′ : List ℕ) (p : TextPut run at (decimal number) b r)
+      (q : TextPut r b (wordOf outcome) b′ r′) where
     word-stage : Stage run at (decimal number ++ wordOf outcome) 29 b′ r′
     word-stage =
         next-stage run at (decimal number) 20 b r (wordOf outcome) 9 b′ r′ (number-stage b r p) q (word-length outcome) (omega arith)
@@ -59,7 +60,8 @@ module _ (run : List ℕ) (at number : ℕ) (outcome : Outcome) (h : at + 37 ≤
     pub hex-room : b′ + 8 ≤ length r′
     hex-room = room run at (decimal number ++ wordOf outcome) 29 b′ r′ 8 word-stage (omega arith)
 
-    pub head-put : (v b″ : ℕ) (r″ : List ℕ) → v ≡ valueOf outcome → TextPut r′ b′ (hex v) b″ r″ → TextPut run at (headOf number outcome) b″ r″
+    pub head-put : (v b″ : ℕ) (r″ : List ℕ) → v ≡ valueOf outcome → TextPut r′ b′ (hex v) b″ r″
+        → TextPut run at (headOf number outcome) b″ r″
     unfolding headOf
     head-put v b″ r″ e t =
         let k = hex-length (valueOf outcome) in
@@ -108,7 +110,8 @@ module _ (run : List ℕ) (at number : ℕ) (reply : Reply) (h : at + 49 ≤ len
       pub line-put : (b‴ : ℕ) (r‴ : List ℕ) → TextPut r″ b″ (ascii "\n") b‴ r‴ → TextPut run at (lineOf number reply) b‴ r‴
       unfolding lineOf ascii
       line-put b‴ r‴ u =
-          next-stage run at (headOf number (reply .outcome) ++ ascii " " ++ decimal (reply .loads)) 48 b″ r″ (ascii "\n") 1 b‴ r‴ loads-stage u
+          next-stage run at (headOf number (reply .outcome) ++ ascii " " ++ decimal (reply .loads)) 48 b″ r″ (ascii "\n") 1 b‴ r‴
+          loads-stage u
           (omega arith) (omega arith) .put
 
 -- a line has at most 49 bytes

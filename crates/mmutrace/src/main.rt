@@ -20,7 +20,8 @@ fn after_block(registers: Registers, more: bool) -> Block {
     Block { registers, more }
 }
 
-// Reads a block, makes its calls and writes its lines. A block that is not full is the last one, and so is one whose lines cannot be written.
+// Reads a block, makes its calls and writes its lines. A block that is not full is the last one, and so is one whose lines cannot be
+// written.
 fn run_block(
     r: Registers,
     buffer: &mut [u64],

@@ -7,7 +7,8 @@ use lib.Dec.{eqb, leb}
 use borrow.Author.Tests.{not-true, not-false, eq-eqb, ne-eqb, leb-true}
 use Rattle.runs.proofs.Bits.{bits-low}
 use Rattle.runs.proofs.Bools.{both}
-use Rattle.trace.specs.Commands.{kindOf, userOf, writeOf, drawOf, indexOf, valueOf, isPlain, wellFormed, settingOf, accessOf, askedBy, commandOf}
+use Rattle.trace.specs.Commands.{kindOf, userOf, writeOf, drawOf, indexOf, valueOf, isPlain, wellFormed, settingOf, accessOf}
+use Rattle.trace.specs.Commands.{askedBy, commandOf}
 use Rattle.trace.specs.declared.Command.the-variants.{Serve, Store, Set, Malformed}
 
 -- the value is the record's low half
@@ -28,7 +29,8 @@ module _ (n : ℕ) (formed : Bool) (e : formed ≡ wellFormed n) where
       → Serve (record { address = n % 2 ^ 32; user = userOf n; write = writeOf n; draw = drawOf n }) ≡ commandOf n
   unfolding askedBy accessOf
   serves h k =
-      ap (λ (v : ℕ). Serve (record { address = v; user = userOf n; write = writeOf n; draw = drawOf n })) (value-is n) ∙ ap (λ (b : Bool). cond b (Serve (accessOf n)) (cond (eqb (kindOf n) 1) (Store (indexOf n) (valueOf n))
+      ap (λ (v : ℕ). Serve (record { address = v; user = userOf n; write = writeOf n; draw = drawOf n })) (value-is n) ∙ ap
+      (λ (b : Bool). cond b (Serve (accessOf n)) (cond (eqb (kindOf n) 1) (Store (indexOf n) (valueOf n))
       (Set (settingOf (kindOf n)) (valueOf n)))) (sym (eq-eqb (kindOf n) 0 k)) ∙ asks h
 
   pub other : not formed ≡ false → (kindOf n ≡ 0 → ⊥)
@@ -40,12 +42,14 @@ module _ (n : ℕ) (formed : Bool) (e : formed ≡ wellFormed n) where
 
   pub stores : not formed ≡ false → (kindOf n ≡ 0 → ⊥) → kindOf n ≡ 1 → Store (indexOf n) (n % 2 ^ 32) ≡ commandOf n
   stores h k l =
-      ap (Store (indexOf n)) (value-is n) ∙ ap (λ (b : Bool). cond b (Store (indexOf n) (valueOf n)) (Set (settingOf (kindOf n)) (valueOf n)))
+      ap (Store (indexOf n)) (value-is n)
+      ∙ ap (λ (b : Bool). cond b (Store (indexOf n) (valueOf n)) (Set (settingOf (kindOf n)) (valueOf n)))
       (sym (eq-eqb (kindOf n) 1 l)) ∙ other h k
 
   pub sets : not formed ≡ false → (kindOf n ≡ 0 → ⊥) → (kindOf n ≡ 1 → ⊥) → Set (settingOf (kindOf n)) (n % 2 ^ 32) ≡ commandOf n
   sets h k l =
-      ap (Set (settingOf (kindOf n))) (value-is n) ∙ ap (λ (b : Bool). cond b (Store (indexOf n) (valueOf n)) (Set (settingOf (kindOf n)) (valueOf n)))
+      ap (Set (settingOf (kindOf n))) (value-is n)
+      ∙ ap (λ (b : Bool). cond b (Store (indexOf n) (valueOf n)) (Set (settingOf (kindOf n)) (valueOf n)))
       (sym (ne-eqb (kindOf n) 1 l)) ∙ other h k
 
   -- a well-formed record's kind is 7 at most

@@ -93,7 +93,8 @@ module _ (m₀ : Machine) (number : ℕ) (input out₀ : List ℕ) where
       ap (commandsFrom input 0) (add-one i) ∙ commands-more input 0 i
       ∙ ap (λ (d : Command). commandsFrom input 0 i ++ (d ∷ [])) (ap (commandAt input) (zero-add i) ∙ sym e) in
       let now : number + length (commandsFrom input 0 i) ≡ number + i = ap (λ (k : ℕ). number + k) (commands-length input 0 i) in
-      let text : linesOf m₀ number (commandsFrom input 0 i) ++ lineOf (number + i) reply ≡ linesOf m₀ number (commandsFrom input 0 (i + 1)) =
+      let text : linesOf m₀ number (commandsFrom input 0 i) ++ lineOf (number + i) reply ≡ linesOf m₀ number
+      (commandsFrom input 0 (i + 1)) =
       ap (λ (t : List ℕ). linesOf m₀ number (commandsFrom input 0 i) ++ t)
       (ap (lineOf (number + i)) (s .reply-is)
       ∙ ap₂ (λ (k : ℕ) (q : Machine). lineOf k (stepReply q c)) (sym now) (r .machine)
@@ -120,10 +121,12 @@ module _ (m₀ : Machine) (number : ℕ) (input out₀ : List ℕ) where
       → at + 49 ≤ length out
   running-room count m out at i r l h = omega (arith, r .short, r .long)
 
-  pub running-fits : (count : ℕ) (m : Machine) (out : List ℕ) (at i : ℕ) → Running count m out at i → 49 * count ≤ length out₀ → at ≤ length out
+  pub running-fits : (count : ℕ) (m : Machine) (out : List ℕ) (at i : ℕ) → Running count m out at i → 49 * count ≤ length out₀
+      → at ≤ length out
   running-fits count m out at i r h = omega (arith, r .some, r .short, r .long)
 
-  pub running-all : (count : ℕ) (registers : Registers) (buffer : Buffer) (words out : List ℕ) (at i : ℕ) → count ≡ recordCount (length input)
+  pub running-all : (count : ℕ) (registers : Registers) (buffer : Buffer) (words out : List ℕ) (at i : ℕ)
+      → count ≡ recordCount (length input)
       → Running count (record { registers = registers; buffer = buffer; words = words }) out at i → count ≤ i
       → RunGives m₀ number input out₀ (record { registers = registers; length = at }) buffer words out
   unfolding commandsOf

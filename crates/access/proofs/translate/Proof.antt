@@ -10,7 +10,8 @@ no-exception-requires : tie.Need-no-exception-requires
 no-exception-requires c κs = search needs
 
 returns : tie.Need-returns
-returns c = way-linear-off _ _ _ _ _ (c .before .before .before .before .in-linear-segment .ensures) (c .before .before .before .if1 .taken) (c .before .if2 .taken) (c .no-exception .ensures)
+returns c = way-linear-off _ _ _ _ _ (c .before .before .before .before .in-linear-segment .ensures) (c .before .before .before .if1 .taken)
+    (c .before .if2 .taken) (c .no-exception .ensures)
 
 linear-address-requires : tie.Need-linear-address-requires
 linear-address-requires c κs = search needs
@@ -19,19 +20,23 @@ no-exception-requires-2 : tie.Need-no-exception-requires-2
 no-exception-requires-2 c κs = search needs
 
 returns-2 : tie.Need-returns-2
-returns-2 c = way-linear _ _ _ _ _ (c .before .before .before .before .before .in-linear-segment .ensures) _ (c .before .before .before .before .if1 .taken) (c .before .before .if2 .left) (c .before .linear-address .ensures) (c .no-exception2 .ensures)
+returns-2 c = way-linear _ _ _ _ _ (c .before .before .before .before .before .in-linear-segment .ensures) _
+    (c .before .before .before .before .if1 .taken) (c .before .before .if2 .left) (c .before .linear-address .ensures)
+    (c .no-exception2 .ensures)
 
 no-exception-requires-3 : tie.Need-no-exception-requires-3
 no-exception-requires-3 c κs = search needs
 
 returns-3 : tie.Need-returns-3
-returns-3 c = way-off _ _ _ _ _ (c .before .before .before .before .before .in-linear-segment .ensures) (c .before .before .before .before .if1 .left) (c .before .if3 .taken) (c .no-exception3 .ensures)
+returns-3 c = way-off _ _ _ _ _ (c .before .before .before .before .before .in-linear-segment .ensures)
+    (c .before .before .before .before .if1 .left) (c .before .if3 .taken) (c .no-exception3 .ensures)
 
 page-mapped-requires : tie.Need-page-mapped-requires
 page-mapped-requires c κs = search needs
 
 returns-4 : tie.Need-returns-4
-returns-4 c = way-mapped _ _ _ _ _ (c .before .before .before .before .before .in-linear-segment .ensures) (c .before .before .before .before .if1 .left) (c .before .if3 .left) (c .page-mapped .ensures)
+returns-4 c = way-mapped _ _ _ _ _ (c .before .before .before .before .before .in-linear-segment .ensures)
+    (c .before .before .before .before .if1 .left) (c .before .if3 .left) (c .page-mapped .ensures)
 
 pub translate-spec : {M : Type 1} → statement M
 translate-spec =

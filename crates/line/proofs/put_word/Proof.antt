@@ -47,28 +47,32 @@ same-length c = search needs
 
 returns : tie.Need-returns
 unfolding wordOf ascii
-returns c = word-put _ _ _ _ _ _ (ap wordOf (c .before .before .before .before .before .enum-told .given .1)) (c .before .before .put-text .ensures)
+returns c = word-put _ _ _ _ _ _ (ap wordOf (c .before .before .before .before .before .enum-told .given .1))
+    (c .before .before .put-text .ensures)
 
 same-length-2 : tie.Need-same-length-2
 same-length-2 c = search needs
 
 returns-2 : tie.Need-returns-2
 unfolding wordOf ascii
-returns-2 c = word-put _ _ _ _ _ _ (ap wordOf (c .before .before .before .before .before .enum-told2 .given .1)) (c .before .before .put-text2 .ensures)
+returns-2 c = word-put _ _ _ _ _ _ (ap wordOf (c .before .before .before .before .before .enum-told2 .given .1))
+    (c .before .before .put-text2 .ensures)
 
 same-length-3 : tie.Need-same-length-3
 same-length-3 c = search needs
 
 returns-3 : tie.Need-returns-3
 unfolding wordOf ascii
-returns-3 c = word-put _ _ _ _ _ _ (ap wordOf (c .before .before .before .before .before .enum-told3 .given .1)) (c .before .before .put-text3 .ensures)
+returns-3 c = word-put _ _ _ _ _ _ (ap wordOf (c .before .before .before .before .before .enum-told3 .given .1))
+    (c .before .before .put-text3 .ensures)
 
 same-length-4 : tie.Need-same-length-4
 same-length-4 c = search needs
 
 returns-4 : tie.Need-returns-4
 unfolding wordOf ascii
-returns-4 c = word-put _ _ _ _ _ _ (ap wordOf (c .before .before .before .before .before .enum-told4 .given .1)) (c .before .before .put-text4 .ensures)
+returns-4 c = word-put _ _ _ _ _ _ (ap wordOf (c .before .before .before .before .before .enum-told4 .given .1))
+    (c .before .before .put-text4 .ensures)
 
 pub put-word-spec : {M : Type 1} → statement M
 put-word-spec =

@@ -15,7 +15,11 @@ slice-aggregate-run : tie.Need-slice-aggregate-run
 slice-aggregate-run c = search needs
 
 run-requires : tie.Need-run-requires
-run-requires c κs = block-fits _ (c .before .before .before .before .before .before .before .before .before .before .before .before .args .input .now) (c .before .before .before .before .before .before .before .before .before .before .before .before .args .out .now) _ _ (c .before .before .before .before .before .before .read-full .ensures) (c .before .before .before .before .before .input .given) (c .before .before .before .before .before .before .before .before .before .before .before .before .pre)
+run-requires c κs = block-fits _
+    (c .before .before .before .before .before .before .before .before .before .before .before .before .args .input .now)
+    (c .before .before .before .before .before .before .before .before .before .before .before .before .args .out .now) _ _
+    (c .before .before .before .before .before .before .read-full .ensures) (c .before .before .before .before .before .input .given)
+    (c .before .before .before .before .before .before .before .before .before .before .before .before .pre)
 
 slice-reshare-prefix-write-all : tie.Need-slice-reshare-prefix-write-all
 slice-reshare-prefix-write-all c = search needs

@@ -8,7 +8,12 @@ use Rattle.registers.proofs.registers_fit.Tie as tie
 
 returns : tie.Need-returns
 unfolding registersFit all fitsAt field toWords widths
-returns c = rw (lt-ltb (c .before .before .before .before .before .before .before .before .before .args .r .«kbase_lo») 4294967296 (omega arith), lt-ltb (c .before .before .before .before .before .before .before .before .before .args .r .«kbase_hi») 4294967296 (omega arith)) refl
+returns c = rw (
+  lt-ltb (c .before .before .before .before .before .before .before .before .before .args .r .«kbase_lo») 4294967296
+      (omega arith),
+  lt-ltb (c .before .before .before .before .before .before .before .before .before .args .r .«kbase_hi») 4294967296
+      (omega arith),
+) refl
 
 pub registers-fit-spec : {M : Type 1} → statement M
 registers-fit-spec = tie.close (tie.spec returns)

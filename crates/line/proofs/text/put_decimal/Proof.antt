@@ -29,7 +29,8 @@ same-length c = search needs
 
 returns : tie.Need-returns
 unfolding decimal
-returns c = spelt-put _ _ _ _ _ _ _ (rw (c .before .before .before .before .decimal-length .ensures .0) refl) (omega arith) (c .before .before .fill-digits .ensures)
+returns c = spelt-put _ _ _ _ _ _ _ (rw (c .before .before .before .before .decimal-length .ensures .0) refl) (omega arith)
+    (c .before .before .fill-digits .ensures)
 
 pub put-decimal-spec : {M : Type 1} → statement M
 put-decimal-spec =

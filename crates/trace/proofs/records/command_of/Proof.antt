@@ -25,7 +25,8 @@ returns-2 c = serves _ _ (c .before .before .well-formed .ensures) (c .before .i
 
 returns-3 : tie.Need-returns-3
 unfolding kindOf indexOf valueOf userOf writeOf drawOf accessOf settingOf settingNumbers
-returns-3 c = stores _ _ (c .before .before .before .well-formed .ensures) (c .before .before .if1 .left) (c .before .if2 .left) (c .if3 .taken)
+returns-3 c = stores _ _ (c .before .before .before .well-formed .ensures) (c .before .before .if1 .left) (c .before .if2 .left)
+    (c .if3 .taken)
 
 mul-t21 : tie.Need-mul-t21
 mul-t21 c = search needs
@@ -36,7 +37,8 @@ array-read-t24 c = kind-lt _ _ (c .before .before .before .well-formed .ensures)
 
 returns-4 : tie.Need-returns-4
 unfolding kindOf indexOf valueOf userOf writeOf drawOf accessOf settingOf settingNumbers
-returns-4 c = sets _ _ (c .before .before .before .well-formed .ensures) (c .before .before .if1 .left) (c .before .if2 .left) (c .if3 .left)
+returns-4 c = sets _ _ (c .before .before .before .well-formed .ensures) (c .before .before .if1 .left) (c .before .if2 .left)
+    (c .if3 .left)
 
 pub command-of-spec : {M : Type 1} → statement M
 command-of-spec =

@@ -34,7 +34,8 @@ same-length-2 : tie.Need-same-length-2
 same-length-2 c = search needs
 
 returns : tie.Need-returns
-returns c = serve-step _ _ _ _ _ (c .before .before .before .before .before .before .command .given .1) (c .before .before .served-access .ensures)
+returns c = serve-step _ _ _ _ _ (c .before .before .before .before .before .before .command .given .1)
+    (c .before .before .served-access .ensures)
 
 same-length-3 : tie.Need-same-length-3
 same-length-3 c = search needs
@@ -43,7 +44,8 @@ same-length-4 : tie.Need-same-length-4
 same-length-4 c = search needs
 
 returns-2 : tie.Need-returns-2
-returns-2 c = store-step _ _ _ _ _ _ _ (c .before .before .before .before .before .before .before .before .command2 .given .1) (c .before .before .before .before .table-store .ensures)
+returns-2 c = store-step _ _ _ _ _ _ _ (c .before .before .before .before .before .before .before .before .command2 .given .1)
+    (c .before .before .before .before .table-store .ensures)
 
 returns-3 : tie.Need-returns-3
 returns-3 c = set-step _ _ _ _ _ (c .before .before .command3 .given .1) (c .guarded-setting .ensures)

@@ -34,7 +34,9 @@ add-put-line c = omega arith
 
 put-line-requires : tie.Need-put-line-requires Inv-loop μ-loop
 unfolding recordCount
-put-line-requires c κs = running-room _ _ _ _ _ _ _ _ _ (c .before .before .before .before .before .before .before .before .before .before .loop .inv .0) (omega arith) (c .before .before .before .before .before .before .before .before .before .before .before .before .before .before .before .pre .0)
+put-line-requires c κs = running-room _ _ _ _ _ _ _ _ _
+    (c .before .before .before .before .before .before .before .before .before .before .loop .inv .0) (omega arith)
+    (c .before .before .before .before .before .before .before .before .before .before .before .before .before .before .before .pre .0)
 
 add-i : tie.Need-add-i Inv-loop μ-loop
 add-i c = omega arith
@@ -44,7 +46,24 @@ loop-less c = omega arith
 
 loop-again : tie.Need-loop-again Inv-loop μ-loop
 unfolding recordCount
-loop-again c = (running-more _ _ _ _ _ _ _ _ _ _ _ _ _ _ _ (c .before .before .before .before .before .before .before .before .before .before .before .before .before .before .loop .inv .0) (omega arith) (c .before .before .before .before .before .before .before .before .before .before .before .before .before .before .before .before .before .before .before .pre .0) (c .before .before .before .before .before .before .before .before .before .before .before .before .command-at .ensures) (c .before .before .before .before .before .before .before .before .before .step .ensures) (c .before .before .before .put-line .ensures .0) (c .before .before .before .put-line .ensures .1), c .before .before .before .before .before .before .before .before .buffer .given ∙ c .before .before .before .before .before .before .before .before .before .before .before .before .before .before .loop .inv .1, c .before .before .before .before .before .before .words .given ∙ c .before .before .before .before .before .before .before .before .before .before .before .before .before .before .loop .inv .2)
+loop-again c = (
+  running-more _ _ _ _ _ _ _ _ _ _ _ _ _ _ _
+      (c .before .before .before .before .before .before .before .before .before .before .before .before .before .before .loop .inv .0)
+      (omega arith) (c .before
+      .before .before .before
+      .before .before .before .before .before .before .before .before .before .before .before .before .before .before .before .pre .0)
+      (c .before .before .before .before .before .before .before .before .before .before .before .before .command-at .ensures)
+      (c .before .before .before .before .before .before .before .before .before .step .ensures)
+      (c .before .before .before .put-line .ensures .0)
+      (c .before .before .before .put-line .ensures .1),
+  c .before .before .before .before .before .before .before .before .buffer .given
+      ∙ c .before .before .before
+      .before .before .before
+      .before .before .before
+      .before .before .before .before .before .loop .inv .1,
+  c .before .before .before .before .before .before .words .given
+      ∙ c .before .before .before .before .before .before .before .before .before .before .before .before .before .before .loop .inv .2,
+)
 
 same-length : tie.Need-same-length Inv-loop μ-loop
 same-length c = c .before .loop .inv .1
