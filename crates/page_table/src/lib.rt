@@ -56,14 +56,15 @@ fn index_in(levels: u32, vpn: u32) -> usize
     }
 }
 
-fn is_present(word: u32) -> bool
+// Whether a word is present.
+pub fn is_present(word: u32) -> bool
     ensures { λ r. ⌜ r ≡ present word ⌝ }
 {
     (word >> 31) % 2 == 1
 }
 
 // The number of the directory or table that a root or directory word names.
-fn number_of(word: u32) -> usize
+pub fn number_of(word: u32) -> usize
     ensures { λ r. ⌜ r ≡ number word ⌝ }
 {
     (word % 65536) as usize

@@ -1,14 +1,14 @@
--- Laws of `all`, `count` and `lowest`, over any test. Assumes nothing.
+-- Laws of `all`, `any`, `count` and `lowest`, over any test. Assumes nothing.
 use Prim.Native.Nat.{ℕ, zero, suc, _+_, _≤_, _<_}
 use mathlib.Core.Path.{_≡_, refl, sym, ap, _∙_, subst}
 use mathlib.Core.Logic.{_⊎_, inl, inr, ⊎-elim}
-use mathlib.Core.Bool.{Bool, true, false, cond}
-use native.Mathlib.Nat.{le-of-suc-le-suc, not-suc-le-zero, eq-or-lt-of-le, lt-suc-self}
+use mathlib.Core.Bool.{Bool, true, false, cond, _||_}
+use native.Mathlib.Nat.{le-of-suc-le-suc, not-suc-le-zero, eq-or-lt-of-le, lt-suc-self, add-suc, add-zero}
 use native.Mathlib.Omega.{arith}
 use Rattle.runs.specs.Bits.{bit}
 use Rattle.runs.proofs.Bits.{bit-le}
-use Rattle.runs.proofs.Bools.{is-false, clash, both, and-both}
-use Rattle.runs.specs.Counts.{all, count, lowest}
+use Rattle.runs.proofs.Bools.{is-false, clash, both, and-both, or-either, or-left, or-right}
+use Rattle.runs.specs.Counts.{all, any, count, lowest}
 
 -- a number below suc n is n or below n
 split : {n k : ℕ} → k < suc n → (k ≡ n) ⊎ (k < n)
@@ -26,6 +26,26 @@ module _ (p : ℕ → Bool) where
   unfolding all
   all-from zero h = refl
   all-from (suc n) h = and-both (h n (lt-suc-self n)) (all-from n (λ k l. h k (omega arith)))
+
+  -- a number that passes, and none that does
+  pub any-at : (n : ℕ) → any p n ≡ true → (k : ℕ) × (k < n) × (p k ≡ true)
+  unfolding any
+  any-at zero h = absurd (clash h refl)
+  any-at (suc n) h = ⊎-elim (λ (e : p n ≡ true). (n, lt-suc-self n, e)) (λ e. more (any-at n e)) (or-either (p n) (any p n) h)
+    where
+      more : (k : ℕ) × (k < n) × (p k ≡ true) → (k : ℕ) × (k < suc n) × (p k ≡ true)
+      more s = (s .0, omega (arith, s .1), s .2)
+
+  pub any-from : (n k : ℕ) → k < n → p k ≡ true → any p n ≡ true
+  unfolding any
+  any-from zero k l h = absurd (not-suc-le-zero l)
+  any-from (suc n) k l h =
+      ⊎-elim (λ (e : k ≡ n). or-left (any p n) (subst (λ (j : ℕ). p j ≡ true) e h))
+      (λ (l′ : k < n). or-right (p n) (any-from n k l′ h)) (split l)
+
+  pub any-suc : (n : ℕ) → any p n ≡ false → p n ≡ false → any p (suc n) ≡ false
+  unfolding any
+  any-suc n e h = rw (h, e)
 
   abbrev None : ℕ → Type 0
   None n = (k : ℕ) → k < n → p k ≡ false
@@ -120,8 +140,35 @@ module _ (p : ℕ → Bool) where
   count-le zero = omega arith
   count-le (suc n) = omega (arith, count-le n, bit-le (p n))
 
+  -- some number passes exactly when the count is not 0
+  pub count-some : (n k : ℕ) → k < n → p k ≡ true → 0 < count p n
+  unfolding count
+  count-some zero k l h = absurd (not-suc-le-zero l)
+  count-some (suc n) k l h =
+      ⊎-elim (λ (e : k ≡ n). let b : bit (p n) ≡ 1 = ap bit (subst (λ (j : ℕ). p j ≡ true) e h) in omega arith)
+      (λ (l′ : k < n). omega (arith, count-some n k l′ h)) (split l)
+
+  pub any-count : (n : ℕ) → any p n ≡ true → 0 < count p n
+  any-count n h = let s = any-at n h in count-some n (s .0) (s .1) (s .2)
+
+  pub count-any : (n : ℕ) → 0 < count p n → any p n ≡ true
+  count-any n h =
+      ⊎-elim (λ (all : None n). let z = count-none n all in absurd (omega arith))
+      (λ (s : Some n). any-from n (s .0) (s .1) (s .2)) (none-or-some n)
+
+  -- a count in two parts
+  pub count-add : (a b : ℕ) → count p (a + b) ≡ count p a + count (λ k. p (a + k)) b
+  unfolding count
+  count-add a zero = rw (add-zero a, add-zero (count p a))
+  count-add a (suc b) = rw (add-suc a b) (let h = count-add a b in omega arith)
+
 -- tests that agree below the bound
 module _ (p q : ℕ → Bool) where
+  pub any-same : (n : ℕ) → ((k : ℕ) → k < n → p k ≡ q k) → any p n ≡ any q n
+  unfolding any
+  any-same zero h = refl
+  any-same (suc n) h = rw (any-same n (λ k l. h k (omega arith)), h n (lt-suc-self n))
+
   pub count-same : (n : ℕ) → ((k : ℕ) → k < n → p k ≡ q k) → count p n ≡ count q n
   unfolding count
   count-same zero h = refl
@@ -131,3 +178,19 @@ module _ (p q : ℕ → Bool) where
   unfolding lowest
   lowest-same zero d h = refl
   lowest-same (suc n) d h = rw (h n (lt-suc-self n)) (lowest-same n (cond (q n) n d) (λ k l. h k (omega arith)))
+
+  -- tests that agree but for one number
+  pub count-change : (n i : ℕ) → i < n → ((k : ℕ) → k < n → (k ≡ i → ⊥) → p k ≡ q k) → count p n + bit (q i) ≡ count q n + bit (p i)
+  unfolding count
+  count-change zero i l h = absurd (not-suc-le-zero l)
+  count-change (suc n) i l h =
+      ⊎-elim (λ (e : i ≡ n). here e)
+      (λ (l′ : i < n). below l′ (count-change n i l′ (λ k kl ne. h k (omega arith) ne))) (split l)
+    where
+      here : i ≡ n → count p n + bit (p n) + bit (q i) ≡ count q n + bit (q n) + bit (p i)
+      here e =
+          let s = count-same n (λ k kl. h k (omega arith) (λ (f : k ≡ i). omega arith)) in
+          rw e (omega arith)
+
+      below : i < n → count p n + bit (q i) ≡ count q n + bit (p i) → count p n + bit (p n) + bit (q i) ≡ count q n + bit (q n) + bit (p i)
+      below l′ ih = let s : bit (p n) ≡ bit (q n) = ap bit (h n (lt-suc-self n) (λ (f : n ≡ i). omega arith)) in omega arith

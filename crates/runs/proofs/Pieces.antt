@@ -6,7 +6,7 @@ use native.Mathlib.Omega.{arith}
 use native.Mathlib.Nat.{not-suc-le-zero, le-of-suc-le-suc, add-zero, zero-add, add-suc, suc-add, add-comm, zero-mul, suc-mul}
 use native.Mathlib.Numerals.{add-one}
 use lib.ListN.{length, getD, take, drop, length-take, length-drop, length-append, drop-of-length-le, List·getD-append}
-use lib.Seq.{take-at, drop-at, drop-drop, take-length, length-take-le, getD-append-add}
+use lib.Seq.{take-at, drop-at, drop-drop, take-length, length-take-le, getD-append-add, ext-getD}
 use borrow.Rule.Slice.PartMut.{putMid, midOf, same-len-mid}
 use Rattle.runs.specs.Pieces.{tabulate, flat}
 
@@ -19,6 +19,18 @@ pub tab-at : (f : ℕ → ℕ) (k n i : ℕ) → i < n → getD (tabulate f k n)
 tab-at f k zero i h = absurd (not-suc-le-zero h)
 tab-at f k (suc n) zero h = rw add-zero
 tab-at f k (suc n) (suc i) h = rw (add-suc, ← suc-add) (tab-at f (suc k) n i (le-of-suc-le-suc h))
+
+pub tab-same : (f g : ℕ → ℕ) (k n : ℕ) → ((i : ℕ) → i < n → f (k + i) ≡ g (k + i)) → tabulate f k n ≡ tabulate g k n
+tab-same f g k zero h = refl
+tab-same f g k (suc n) h =
+    ap₂ (λ (x : ℕ) (xs : List ℕ). x ∷ xs) (rw add-zero at (h zero (omega arith)))
+    (tab-same f g (suc k) n (λ i l. rw (add-suc, ← suc-add) at (h (suc i) (omega arith))))
+
+-- a run is a table by its entries
+pub tab-is : (f : ℕ → ℕ) (n : ℕ) (run : List ℕ) → length run ≡ n → ((i : ℕ) → i < n → getD run i 0 ≡ f i) → run ≡ tabulate f 0 n
+tab-is f n run e h =
+    ext-getD 0 run (tabulate f 0 n) (e ∙ sym (tab-length f 0 n))
+    (λ i l. h i (omega arith) ∙ sym (tab-at f 0 n i (omega arith) ∙ ap f (zero-add i)))
 
 -- a loop that lends the run's stretches one after the other: p is what the stretches passed have become, d the run at first
 pub put-front : (p d part : List ℕ) (a n : ℕ) → length p ≡ a → putMid a n (p ++ drop a d) part ≡ (p ++ part) ++ drop (a + n) d
