@@ -7,6 +7,7 @@ pub use records::command_of;
 use registers::Access;
 use registers::Registers;
 pub use steps::step;
+pub use traces::command_at;
 pub use traces::run;
 
 // What a record asks for: a served access; a store at an index; a guarded setting of a register; or nothing, where it is malformed.

@@ -10,7 +10,7 @@ use crate::Ran;
 use registers::Registers;
 
 // The record of an index. A last piece of fewer than eight bytes is cut short, and malformed.
-fn command_at(input: &[u8], i: usize) -> Command
+pub fn command_at(input: &[u8], i: usize) -> Command
     ensures { λ c. ⌜ c ≡ commandAt (now (input .entry)) i ⌝ }
 {
     if input.len() / 8 <= i {

@@ -1,0 +1,53 @@
+-- What a record's call gives to the totals of the identification under which it is made.
+use Prim.Native.Nat.{ℕ, _+_}
+use mathlib.Core.Bool.{Bool, cond, _&&_, _||_}
+use mathlib.Core.List.{List, [], _∷_}
+use lib.Dec.{eqb, leb}
+use lib.IntN.{ℤ, pos, _-ℤ_}
+use Rattle.registers.specs.declared.Outcome.{Outcome}
+use Rattle.registers.specs.declared.Outcome.the-variants.{At, Fault, Done, Refused}
+use Rattle.store.specs.Machine.{Machine}
+use Rattle.reach.specs.Leaves.{leafCount}
+use Rattle.trace.specs.Steps.{stepReply, wordsAfterStep}
+use Rattle.trace.specs.declared.Command.{Command}
+use Rattle.trace.specs.declared.Command.the-variants.{Serve, Store, Set, Malformed}
+use Rattle.report.specs.Totals.{Gain, SERVED, LOADS, EMPTIED, CHANGE}
+
+unfoldable pub gain : (column : ℕ) (amount : ℤ) → Gain
+gain column amount = record { column = column; amount = amount }
+
+-- "faults by value (1 to 8, 16, 32)": columns 2 to 11. No other value has a column.
+unfoldable pub hasColumn : (value : ℕ) → Bool
+hasColumn value = (leb 1 value && leb value 8) || eqb value 16 || eqb value 32
+
+unfoldable pub faultColumn : (value : ℕ) → ℕ
+faultColumn value = cond (leb value 8) (value + 1) (cond (eqb value 16) 10 11)
+
+unfoldable pub faultGains : (value : ℕ) → List Gain
+faultGains value = cond (hasColumn value) (gain (faultColumn value) (pos 1) ∷ []) []
+
+-- an accepted served access, of any outcome, counts once, with its loads; a fault counts by its value
+unfoldable pub accessGains : Outcome → (loads : ℕ) → List Gain
+accessGains (At address) loads = gain SERVED (pos 1) ∷ gain LOADS (pos loads) ∷ []
+accessGains (Fault value) loads = gain SERVED (pos 1) ∷ gain LOADS (pos loads) ∷ faultGains value
+accessGains (Done value) loads = []
+accessGains (Refused number) loads = []
+
+-- "from stores made under that context, slots emptied and the net change in present leaf words, which may be below zero"
+unfoldable pub storeGains : Outcome → (change : ℤ) → List Gain
+storeGains (At address) change = []
+storeGains (Fault value) change = []
+storeGains (Done emptied) change = gain EMPTIED (pos emptied) ∷ gain CHANGE change ∷ []
+storeGains (Refused number) change = []
+
+-- leaf words after minus leaf words before
+unfoldable pub leafChange : (before after : List ℕ) → ℤ
+leafChange before after = pos (leafCount after) -ℤ pos (leafCount before)
+
+-- what a record gives: its accepted access or store; a setting, a malformed record and a refused call give nothing
+unfoldable pub gainsOf : Machine → Command → List Gain
+gainsOf m (Serve a) = accessGains ((stepReply m (Serve a)) .outcome) ((stepReply m (Serve a)) .loads)
+gainsOf m (Store index value) =
+    storeGains ((stepReply m (Store index value)) .outcome) (leafChange (m .words) (wordsAfterStep m (Store index value)))
+gainsOf m (Set number value) = []
+gainsOf m Malformed = []

@@ -1,0 +1,102 @@
+// What a call gives to the totals: an accepted served access, or an accepted store.
+ghost use mathlib.Core.List.{[], _∷_};
+ghost use mathlib.Core.Path.{_≡_};
+ghost use Prim.Native.Nat.{_≤_};
+ghost use lib.ListN.{length};
+ghost use lib.IntN.{pos, _-ℤ_};
+ghost use Rattle.report.specs.Gains.{accessGains, faultColumn, gain, hasColumn};
+ghost use Rattle.report.specs.Totals.{AllWithin, BooksGive, CHANGE, EMPTIED, LOADS, SERVED};
+use crate::totals::book;
+use registers::Outcome;
+
+const SERVED: u32 = 0;
+const LOADS: u32 = 1;
+const EMPTIED: u32 = 12;
+const CHANGE: u32 = 13;
+
+// The fault values that have a column: 1 to 8, 16 and 32.
+fn has_column(value: u32) -> bool
+    ensures { λ b. ⌜ b ≡ hasColumn value ⌝ }
+{
+    ((1 <= value) & (value <= 8)) | (value == 16) | (value == 32)
+}
+
+fn fault_column(value: u32) -> u32
+    ensures { λ r. ⌜ r ≡ faultColumn value ⌝ }
+{
+    if value <= 8 {
+        return value + 1;
+    }
+    if value == 16 {
+        return 10;
+    }
+    11
+}
+
+fn wide(n: u32) -> i64
+    ensures { λ z. ⌜ z ≡ pos n ⌝ }
+{
+    n as i64
+}
+
+fn difference(a: u32, b: u32) -> i64
+    ensures { λ z. ⌜ z ≡ pos a -ℤ pos b ⌝ }
+{
+    let more = a as i64;
+    let fewer = b as i64;
+    more - fewer
+}
+
+// An accepted access counts once, with its loads.
+fn book_served(totals: &mut [i64], id: u32, loads: u32) -> bool
+    requires { ⌜ (length (now totals) ≡ 882) × AllWithin (now totals) ⌝ }
+    ensures { λ b. ⌜ BooksGive id (gain SERVED (pos 1) ∷ gain LOADS (pos loads) ∷ []) (now (totals .entry)) b (now (totals .exit)) ⌝ }
+{
+    if !book(totals, id, SERVED, 1) {
+        return false;
+    }
+    let amount = wide(loads);
+    book(totals, id, LOADS, amount)
+}
+
+// A fault counts by its value as well.
+fn book_fault(totals: &mut [i64], id: u32, value: u32, loads: u32) -> bool
+    requires { ⌜ (length (now totals) ≡ 882) × AllWithin (now totals) ⌝ }
+    ensures { λ b. ⌜ BooksGive id (accessGains (Outcome.Fault value) loads) (now (totals .entry)) b (now (totals .exit)) ⌝ }
+{
+    if !book_served(totals, id, loads) {
+        return false;
+    }
+    if !has_column(value) {
+        return true;
+    }
+    let column = fault_column(value);
+    book(totals, id, column, 1)
+}
+
+// Books what an access gives, by its outcome; a refused one gives nothing.
+pub(crate) fn book_access(totals: &mut [i64], id: u32, outcome: Outcome, loads: u32) -> bool
+    requires { ⌜ (length (now totals) ≡ 882) × AllWithin (now totals) ⌝ }
+    ensures { λ b. ⌜ BooksGive id (accessGains outcome loads) (now (totals .entry)) b (now (totals .exit)) ⌝ }
+{
+    match outcome {
+        Outcome::At(_) => book_served(totals, id, loads),
+        Outcome::Fault(value) => book_fault(totals, id, value, loads),
+        Outcome::Done(_) => true,
+        Outcome::Refused(_) => true,
+    }
+}
+
+// Books what an accepted store gives: the slots that it emptied, and leaf words after minus leaf words before.
+pub(crate) fn book_store(totals: &mut [i64], id: u32, emptied: u32, before: u32, after: u32) -> bool
+    requires { ⌜ (length (now totals) ≡ 882) × AllWithin (now totals) ⌝ }
+    ensures { λ b. ⌜ BooksGive id (gain EMPTIED (pos emptied) ∷ gain CHANGE (pos after -ℤ pos before) ∷ [])
+        (now (totals .entry)) b (now (totals .exit)) ⌝ }
+{
+    let amount = wide(emptied);
+    if !book(totals, id, EMPTIED, amount) {
+        return false;
+    }
+    let change = difference(after, before);
+    book(totals, id, CHANGE, change)
+}

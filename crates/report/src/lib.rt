@@ -1,0 +1,11 @@
+// The report over a trace: what its records give to the totals of each identification.
+mod gains;
+mod totals;
+
+use registers::Registers;
+
+// After some records: the registers, and whether every total is within the limit.
+pub struct Counted {
+    pub registers: Registers,
+    pub fits: bool,
+}
