@@ -1,0 +1,1 @@
+-- The report's lines part by part, and the turns of the loops that write them. Assumes nothing.
