@@ -1,4 +1,4 @@
--- The report's lines over a term's traces: "the file's number, the identification, and fourteen totals, of which the last may be below zero".
+-- The report over a term's traces: a line for each identification of a file, with fourteen totals, of which the last may be below zero.
 use Prim.Native.Nat.{ℕ, zero, suc, _+_, _*_}
 use mathlib.Core.List.{List, [], _++_}
 use lib.IntN.{ℤ, pos, negsuc}

@@ -1,30 +1,29 @@
+use Rattle.line.proofs.LineLaws.{long-le}
+use native.Mathlib.Omega.{arith}
+use Rattle.line.specs.Text.{ascii}
+use Rattle.rows.specs.Rows.{refusedText}
+use Rattle.rows.proofs.RowLaws.{behind-room, single-put}
 use borrow.Author.Needs.{needs}
 use Rattle.rows.proofs.put_refused.Statement.{statement}
 use Rattle.rows.proofs.put_refused.Tie as tie
-use Rattle.rows.proofs.put_refused.Reads as reads
-use Rattle.rows.proofs.put_refused.Lts as lts
-use Rattle.line.proofs.put_decimal.Reads as put-decimal-reads
-use Rattle.line.proofs.put_text.Reads as put-text-reads
 
--- src/lib.rt:34:9
 put-decimal-requires : tie.Need-put-decimal-requires
-put-decimal-requires c κs = ?
+put-decimal-requires c κs = let k = long-le (c .before .before .args .number) (omega arith) in omega arith
 
--- src/lib.rt:35:25
 slice-aggregate-put-text : tie.Need-slice-aggregate-put-text
 slice-aggregate-put-text c = search needs
 
--- src/lib.rt:35:5
 put-text-requires : tie.Need-put-text-requires
-put-text-requires c κs = ?
+put-text-requires c κs = let k = behind-room _ 0 _ (omega arith) _ _ (c .before .before .before .before .put-decimal .ensures) 12
+    (omega (arith, c .before .before .before .before .before .before .before .pre)) in omega arith
 
--- src/lib.rt:29:1
 same-length : tie.Need-same-length
 same-length c = search needs
 
--- src/lib.rt:29:1
 returns : tie.Need-returns
-returns c = ?
+unfolding refusedText ascii
+returns c = single-put _ _ (omega arith) _ _ _ _ _ (c .before .before .before .before .before .before .before .before .before .before .pre)
+    (omega arith) (c .before .before .before .before .before .before .before .put-decimal .ensures) (c .before .before .put-text .ensures)
 
 pub put-refused-spec : {M : Type 1} → statement M
 put-refused-spec =

@@ -1,34 +1,39 @@
+use Rattle.line.proofs.LineLaws.{long-le}
+use native.Mathlib.Omega.{arith}
+use Rattle.line.specs.Text.{ascii}
+use Rattle.rows.proofs.RowLaws.{behind-room, id-room, names-put}
 use borrow.Author.Needs.{needs}
 use Rattle.rows.proofs.row.put_names.Statement.{statement}
 use Rattle.rows.proofs.row.put_names.Tie as tie
-use Rattle.rows.proofs.row.put_names.Reads as reads
-use Rattle.rows.proofs.row.put_names.Lts as lts
-use Rattle.line.proofs.put_decimal.Reads as put-decimal-reads
-use Rattle.line.proofs.put_text.Reads as put-text-reads
 
--- src/row.rt:55:9
 put-decimal-requires : tie.Need-put-decimal-requires
-put-decimal-requires c κs = ?
+put-decimal-requires c κs = let k = long-le (c .before .before .args .number) (omega arith) in omega arith
 
--- src/row.rt:56:39
 slice-aggregate-put-text : tie.Need-slice-aggregate-put-text
 slice-aggregate-put-text c = search needs
 
--- src/row.rt:56:9
 put-text-requires : tie.Need-put-text-requires
-put-text-requires c κs = ?
+put-text-requires c κs = behind-room _ _ _ (omega arith) _ _ (c .before .before .before .before .put-decimal .ensures) 1
+    (omega (arith, c .before .before .before .before .before .before .before .pre))
 
--- src/row.rt:57:5
 put-decimal-requires-2 : tie.Need-put-decimal-requires-2
-put-decimal-requires-2 c κs = ?
+unfolding ascii
+put-decimal-requires-2 c κs = id-room _ _ _ (omega arith) _ _
+    (c .before .before .before .before .before .before .before .before .put-decimal .ensures) _
+    (c .before .before .before .before .before .before .before .before .before .before .before .pre .0)
+    (c .before .before .before .before .before .before .before .before .before .before .before .pre .1) _ _
+    (c .before .before .before .put-text .ensures)
 
--- src/row.rt:50:1
 same-length : tie.Need-same-length
 same-length c = search needs
 
--- src/row.rt:50:1
 returns : tie.Need-returns
-returns c = ?
+unfolding ascii
+returns c = names-put _ _ _ (omega arith) _ _
+    (c .before .before .before .before .before .before .before .before .before .before .before .put-decimal .ensures) _
+    (c .before .before .before .before .before .before .before .before .before .before .before .before .before .before .pre .0)
+    (c .before .before .before .before .before .before .before .before .before .before .before .before .before .before .pre .1) _ _
+    (c .before .before .before .before .before .before .put-text .ensures) _ _ (c .before .before .put-decimal2 .ensures)
 
 pub put-names-spec : {M : Type 1} → statement M
 put-names-spec =

@@ -1,58 +1,68 @@
+use Rattle.line.specs.Text.{ascii}
+use Rattle.rows.proofs.SignLaws.{
+  upward,
+  upward-casts,
+  upward-room,
+  upward-put,
+  downward,
+  downward-less,
+  downward-casts,
+  downward-adds,
+  downward-room,
+  downward-put,
+}
 use borrow.Author.Needs.{needs}
 use Rattle.rows.proofs.row.put_signed.Statement.{statement}
 use Rattle.rows.proofs.row.put_signed.Tie as tie
-use Rattle.rows.proofs.row.put_signed.Reads as reads
-use Rattle.rows.proofs.row.put_signed.Lts as lts
-use Rattle.line.proofs.put_decimal.Reads as put-decimal-reads
-use Rattle.line.proofs.put_text.Reads as put-text-reads
 
--- src/row.rt:17:37
 cast-put-decimal : tie.Need-cast-put-decimal
-cast-put-decimal c = ?
+cast-put-decimal c = upward-casts _ _ (upward _ (c .before .before .before .fits .n) (c .before .if1 .taken))
 
--- src/row.rt:17:9
 put-decimal-requires : tie.Need-put-decimal-requires
-put-decimal-requires c κs = ?
+put-decimal-requires c κs = upward-room _ _ (upward _ (c .before .before .before .fits .n) (c .before .if1 .taken)) _ _
+    (c .before .before .before .pre)
 
--- src/row.rt:17:9
 same-length : tie.Need-same-length
 same-length c = search needs
 
--- src/row.rt:17:9
 returns : tie.Need-returns
-returns c = ?
+returns c = upward-put _ _
+    (upward _ (c .before .before .before .before .before .before .fits .n) (c .before .before .before .before .if1 .taken)) _ _ _ _
+    (c .before .before .put-decimal .ensures)
 
--- src/row.rt:19:36
 slice-aggregate-put-text : tie.Need-slice-aggregate-put-text
 slice-aggregate-put-text c = search needs
 
--- src/row.rt:19:9
 put-text-requires : tie.Need-put-text-requires
 put-text-requires c κs = search needs
 
--- src/row.rt:20:31
 sub-put-decimal : tie.Need-sub-put-decimal
-sub-put-decimal c = ?
+sub-put-decimal c = downward-less _ _
+    (downward _ (c .before .before .before .before .before .before .before .before .fits .n) (c .before .before .before .before .before .before .if1 .left))
 
--- src/row.rt:20:30
 cast-put-decimal-2 : tie.Need-cast-put-decimal-2
-cast-put-decimal-2 c = ?
+cast-put-decimal-2 c = downward-casts _ _
+    (downward _ (c .before .before .before .before .before .before .before .before .fits .n) (c .before .before .before .before .before .before .if1 .left))
 
--- src/row.rt:20:30
 add-put-decimal : tie.Need-add-put-decimal
-add-put-decimal c = ?
+add-put-decimal c = downward-adds _ _
+    (downward _ (c .before .before .before .before .before .before .before .before .fits .n) (c .before .before .before .before .before .before .if1 .left))
 
--- src/row.rt:20:5
 put-decimal-requires-2 : tie.Need-put-decimal-requires-2
-put-decimal-requires-2 c κs = ?
+unfolding ascii
+put-decimal-requires-2 c κs = downward-room _ _
+    (downward _ (c .before .before .before .before .before .before .before .before .fits .n) (c .before .before .before .before .before .before .if1 .left))
+    _ _ _ _ (c .before .before .before .before .before .before .before .before .pre) (c .before .before .before .put-text .ensures)
 
--- src/row.rt:11:1
 same-length-2 : tie.Need-same-length-2
 same-length-2 c = search needs
 
--- src/row.rt:11:1
 returns-2 : tie.Need-returns-2
-returns-2 c = ?
+unfolding ascii
+returns-2 c = downward-put _ _
+    (downward _ (c .before .before .before .before .before .before .before .before .before .before .before .fits .n) (c .before .before .before .before .before .before .before .before .before .if1 .left))
+    _ _ _ _ (c .before .before .before .before .before .before .before .before .before .before .before .pre)
+    (c .before .before .before .before .before .before .put-text .ensures) _ _ (c .before .before .put-decimal2 .ensures)
 
 pub put-signed-spec : {M : Type 1} → statement M
 put-signed-spec =

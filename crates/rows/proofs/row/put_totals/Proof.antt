@@ -1,54 +1,51 @@
+use mir.Syntax.{w64}
+use mir.ValLaws.{toZ-ofZ}
+use Prim.Native.Nat.{_-_}
+use native.Mathlib.Omega.{arith}
+use Rattle.rows.specs.Rows.{totalsText}
+use Rattle.rows.proofs.RowLaws.{Growing, growing-none, growing-room, growing-more, growing-all, totals-none, totals-more}
 use Rattle.rows.proofs.row.put_totals.Statement.{statement}
 use Rattle.rows.proofs.row.put_totals.Tie as tie
-use Rattle.rows.proofs.row.put_totals.Reads as reads
-use Rattle.rows.proofs.row.put_totals.Lts as lts
-use Rattle.rows.proofs.row.put_total.Reads as put-total-reads
 
 abbrev Inv-loop : tie.InvT-loop
-Inv-loop out₀ at totals from to₀ i₀ out to i = ?
+Inv-loop out₀ at totals from to₀ i₀ out to i = Growing out₀ at (totalsText totals from) 21 14 out to i
 
 abbrev μ-loop : tie.MeasureT-loop
-μ-loop out₀ at totals from to₀ i₀ out to i = ?
+μ-loop out₀ at totals from to₀ i₀ out to i = 14 - i
 
--- src/row.rt:41:5
 loop-holds : tie.Need-loop-holds Inv-loop μ-loop
-loop-holds c = ?
+loop-holds c = growing-none _ _ _ _ _ (totals-none _ _)
 
--- src/row.rt:42:28
 add-total : tie.Need-add-total Inv-loop μ-loop
-add-total c = ?
+add-total c = omega arith
 
--- src/row.rt:42:21
 mul-total : tie.Need-mul-total Inv-loop μ-loop
-mul-total c = ?
+mul-total c = omega arith
 
--- src/row.rt:42:21
 shared-slice-copy-out-total : tie.Need-shared-slice-copy-out-total Inv-loop μ-loop
-shared-slice-copy-out-total c = ?
+shared-slice-copy-out-total c = omega arith
 
--- src/row.rt:43:9
 put-total-requires : tie.Need-put-total-requires Inv-loop μ-loop
-put-total-requires c κs = ?
+put-total-requires c κs = growing-room _ _ _ _ _ _ _ _ (c .before .before .before .loop .inv) (omega arith)
+    (omega (arith, c .before .before .before .before .before .pre))
 
--- src/row.rt:44:9
 add-i : tie.Need-add-i Inv-loop μ-loop
-add-i c = ?
+add-i c = omega arith
 
--- src/row.rt:41:5
 loop-less : tie.Need-loop-less Inv-loop μ-loop
-loop-less c = ?
+loop-less c = omega arith
 
--- src/row.rt:41:5
 loop-again : tie.Need-loop-again Inv-loop μ-loop
-loop-again c = ?
+loop-again c = growing-more _ _ _ _ _ _ _ _ _ _ _ (c .before .before .before .before .before .before .loop .inv) (omega arith)
+    (omega (arith, c .before .before .before .before .before .before .before .before .pre))
+    (totals-more _ _ _ _ (toZ-ofZ w64 _ (record { sfits = c .before .before .before .before .total .given })))
+    (c .before .before .put-total .ensures .0) (c .before .before .put-total .ensures .1)
 
--- src/row.rt:34:1
 same-length : tie.Need-same-length Inv-loop μ-loop
-same-length c = ?
+same-length c = c .before .loop .inv .stage .long
 
--- src/row.rt:34:1
 returns : tie.Need-returns Inv-loop μ-loop
-returns c = ?
+returns c = growing-all _ _ _ _ _ _ _ _ (c .before .loop .inv) (omega arith)
 
 pub put-totals-spec : {M : Type 1} → statement M
 put-totals-spec =

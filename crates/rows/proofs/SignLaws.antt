@@ -1,0 +1,128 @@
+-- A total of 64 bits as the machine reads it: whether it is below zero, and its digits. Assumes nothing.
+use Prim.Native.Nat.{ℕ, suc, _+_, _-_, _≤_, _<_}
+use mathlib.Core.Path.{_≡_, refl, sym, ap, subst, _∙_}
+use mathlib.Core.Bool.{Bool, true, false, cond}
+use mathlib.Core.List.{List, _++_}
+use native.Mathlib.Numerals.{add-one}
+use native.Mathlib.Omega.{arith}
+use lib.Dec.{T}
+use lib.IntN.{ℤ, pos, negsuc, natAbs, _-ℤ_}
+use lib.Signed.{leZ, nonNeg}
+use lib.ListN.{length}
+use mir.Syntax.{w64}
+use mir.Val.{Fits, SFits, toZ, ofZ}
+use mir.ValLaws.{toZ-ofZ}
+use borrow.Author.Tests.{le-leb, le-ltb}
+use Rattle.line.specs.Text.{ascii, decimal, decimalLength, TextPut}
+use Rattle.line.proofs.TextLaws.{length-le, Stage, first-stage, next-stage, room}
+use Rattle.line.proofs.LineLaws.{word-put, decimal-wide}
+use Rattle.rows.specs.Rows.{signed}
+use Rattle.rows.proofs.RowLaws.{ended}
+
+never : true ≡ false → ⊥
+never e = subst T e tt
+
+-- a total that is not below zero, and the number that it is
+pub record Upward (n : ℤ) (read : ℤ) : Type 0 where
+  pub number : ℕ
+  pub small : number < 9223372036854775808
+  pub is : n ≡ pos number
+  pub reads : read ≡ pos number
+
+pub upward : (n : ℤ) → SFits w64 n → leZ (pos 0) (toZ w64 (ofZ w64 n)) ≡ true → Upward n (toZ w64 (ofZ w64 n))
+upward (pos k) f t = record { number = k; small = f .sfits; is = refl; reads = toZ-ofZ w64 (pos k) f }
+upward (negsuc k) f t = absurd (never (sym t ∙ ap (leZ (pos 0)) (toZ-ofZ w64 (negsuc k) f)))
+
+-- a total below zero, and the number that it is behind -1
+pub record Downward (n : ℤ) (less : ℤ) : Type 0 where
+  pub number : ℕ
+  pub small : number < 9223372036854775808
+  pub is : n ≡ negsuc number
+  pub less-is : less ≡ pos number
+  pub reads : toZ w64 (ofZ w64 less) ≡ pos number
+
+pub downward : (n : ℤ) → SFits w64 n → leZ (pos 0) (toZ w64 (ofZ w64 n)) ≡ false → Downward n (negsuc 0 -ℤ toZ w64 (ofZ w64 n))
+downward (pos k) f t = absurd (never (sym (le-leb 0 k (omega arith)) ∙ sym (ap (leZ (pos 0)) (toZ-ofZ w64 (pos k) f)) ∙ t))
+downward (negsuc k) f t =
+    let e : negsuc 0 -ℤ toZ w64 (ofZ w64 (negsuc k)) ≡ pos k = ap (λ (z : ℤ). negsuc 0 -ℤ z) (toZ-ofZ w64 (negsuc k) f) ∙ less in
+    record {
+      number = k;
+      small = f .sfits;
+      is = refl;
+      less-is = e;
+      reads = ap (λ (z : ℤ). toZ w64 (ofZ w64 z)) e ∙ toZ-ofZ w64 (pos k) (record { sfits = f .sfits });
+    }
+  where
+    less : negsuc 0 -ℤ negsuc k ≡ pos k
+    less =
+        ap (λ (b : Bool). cond b (negsuc (1 - suc (suc k))) (pos (suc k - 1))) (le-ltb (suc k) 1 (omega arith))
+        ∙ ap pos (let e : suc k - 1 ≡ k = omega arith in e)
+
+-- 64 bits with a sign have at most 19 digits
+digits-le : (m : ℕ) → m ≤ 9223372036854775808 → length (decimal m) ≤ 19
+unfolding decimalLength
+digits-le m h = let k = length-le 20 m 19 (omega arith) (omega arith) in let e = decimal-wide m in omega arith
+
+-- its digits
+module _ (n read : ℤ) (u : Upward n read) where
+  magnitude : natAbs read ≡ u .number
+  magnitude = ap natAbs (u .reads)
+
+  pub upward-casts : T (nonNeg read) × Fits w64 (natAbs read)
+  upward-casts = subst (λ z. T (nonNeg z) × Fits w64 (natAbs z)) (sym (u .reads)) (tt, record { fits = omega (arith, u .small) })
+
+  digits-short : length (decimal (natAbs read)) ≤ 19
+  digits-short = let e = magnitude in let s = u .small in digits-le (natAbs read) (omega arith)
+
+  pub upward-room : (at room : ℕ) → at + 20 ≤ room → at + decimalLength (natAbs read) ≤ room
+  upward-room at room h = let k = digits-short in let e = decimal-wide (natAbs read) in omega arith
+
+  pub upward-put : (run : List ℕ) (at behind : ℕ) (after : List ℕ) → TextPut run at (decimal (natAbs read)) behind after
+      → TextPut run at (signed n) behind after × (behind ≤ at + 20)
+  unfolding signed
+  upward-put run at behind after p =
+      let k = digits-short in
+      let e = p .behind-is in (
+        word-put run at (decimal (natAbs read)) (signed n) behind after (ap signed (u .is) ∙ ap decimal (sym magnitude)) p,
+        omega arith,
+      )
+
+-- the minus sign, and the digits behind it
+module _ (n less : ℤ) (d : Downward n less) where
+  behind-sign : natAbs (toZ w64 (ofZ w64 less)) + 1 ≡ suc (d .number)
+  behind-sign = ap (λ (z : ℤ). natAbs z + 1) (d .reads) ∙ add-one (d .number)
+
+  pub downward-less : SFits w64 less
+  downward-less = subst (SFits w64) (sym (d .less-is)) (record { sfits = d .small })
+
+  pub downward-casts : T (nonNeg (toZ w64 (ofZ w64 less))) × Fits w64 (natAbs (toZ w64 (ofZ w64 less)))
+  downward-casts =
+      subst (λ z. T (nonNeg z) × Fits w64 (natAbs z)) (sym (d .reads)) (tt, record { fits = omega (arith, d .small) })
+
+  pub downward-adds : Fits w64 (natAbs (toZ w64 (ofZ w64 less)) + 1)
+  downward-adds = subst (Fits w64) (sym behind-sign) (record { fits = omega (arith, d .small) })
+
+  below-short : length (decimal (natAbs (toZ w64 (ofZ w64 less)) + 1)) ≤ 19
+  below-short = let e = behind-sign in let s = d .small in digits-le (natAbs (toZ w64 (ofZ w64 less)) + 1) (omega arith)
+
+  module _ (run : List ℕ) (at between : ℕ) (middle : List ℕ) (h : at + 20 ≤ length run) (p : TextPut run at (ascii "-") between middle) where
+    sign-stage : Stage run at (ascii "-") 1 between middle
+    unfolding ascii
+    sign-stage = first-stage run at (ascii "-") 1 between middle p (omega arith) (omega arith)
+
+    pub downward-room : between + decimalLength (natAbs (toZ w64 (ofZ w64 less)) + 1) ≤ length middle
+    downward-room =
+        let k = below-short in
+        let e = decimal-wide (natAbs (toZ w64 (ofZ w64 less)) + 1) in
+        let r = room run at (ascii "-") 1 between middle 19 sign-stage (omega arith) in
+        omega arith
+
+    pub downward-put : (behind : ℕ) (after : List ℕ)
+        → TextPut middle between (decimal (natAbs (toZ w64 (ofZ w64 less)) + 1)) behind after
+        → TextPut run at (signed n) behind after × (behind ≤ at + 20)
+    unfolding signed
+    downward-put behind after q = ended run at (signed n) 20 behind after
+        (subst (λ t. Stage run at t 20 behind after)
+        (ap (λ (k : ℕ). ascii "-" ++ decimal k) behind-sign ∙ sym (ap signed (d .is)))
+        (next-stage run at (ascii "-") 1 between middle (decimal (natAbs (toZ w64 (ofZ w64 less)) + 1)) 19 behind after sign-stage q
+        below-short (omega arith)))
