@@ -10,7 +10,7 @@ use lib.ListN.{length, getD, take, drop, take-append-drop}
 use Rattle.line.specs.Text.{ascii, decimal, decimalLength, overwritten, TextPut}
 use Rattle.line.proofs.TextLaws.{length-le, Stage, first-stage, next-stage, room}
 use Rattle.line.proofs.LineLaws.{decimal-wide, long-le}
-use Rattle.rows.specs.Rows.{signed, totalText, totalsText, namesOf, rowOf, rowsOf, reportOf}
+use Rattle.rows.specs.Rows.{signed, totalText, totalsText, headOf, rowOf, rowsOf, reportOf}
 
 -- a text that was written within so many bytes, as a stage and as it is promised
 module _ (run : List ℕ) (at : ℕ) (text : List ℕ) (k behind : ℕ) (after : List ℕ) where
@@ -125,13 +125,13 @@ module _ (run : List ℕ) (at number : ℕ) (w : number < 18446744073709551616) 
         let e = room run at (decimal number ++ ascii " ") 21 b′ r′ 2 space-stage (omega arith) in
         omega arith
 
-    pub names-put : (b″ : ℕ) (r″ : List ℕ) → TextPut r′ b′ (decimal id) b″ r″
-        → TextPut run at (namesOf number id) b″ r″ × (b″ ≤ at + 23)
-    unfolding namesOf
-    names-put b″ r″ t =
+    pub head-put : (b″ : ℕ) (r″ : List ℕ) → TextPut r′ b′ (decimal id) b″ r″
+        → TextPut run at (headOf number id) b″ r″ × (b″ ≤ at + 23)
+    unfolding headOf
+    head-put b″ r″ t =
         let k = id-le id l in
         let e = decimal-wide id in
-        ended run at (namesOf number id) 23 b″ r″
+        ended run at (headOf number id) 23 b″ r″
         (next-stage run at (decimal number ++ ascii " ") 21 b′ r′ (decimal id) 2 b″ r″ space-stage t (omega arith) (omega arith))
 
 -- a file's one line: its number and a word behind it
@@ -143,16 +143,16 @@ single-put run number w b r word b′ r′ h m p q =
     let e = s .put .behind-is in
     (s .put, omega (arith, s .most, s .long))
 
--- an identification's line: its names, its totals and its end
+-- an identification's line: its head, its totals and its end
 pub row-put : (run : List ℕ) (at number id : ℕ) (totals : List ℤ) (b : ℕ) (r : List ℕ) (b′ : ℕ) (r′ : List ℕ) (b″ : ℕ) (r″ : List ℕ)
-    → at + 318 ≤ length run → TextPut run at (namesOf number id) b r → b ≤ at + 23 → TextPut r b (totalsText totals (14 * id) 14) b′ r′
+    → at + 318 ≤ length run → TextPut run at (headOf number id) b r → b ≤ at + 23 → TextPut r b (totalsText totals (14 * id) 14) b′ r′
     → b′ ≤ b + 294 → TextPut r′ b′ (ascii "\n") b″ r″ → TextPut run at (rowOf number id totals) b″ r″ × (b″ ≤ at + 318)
 unfolding rowOf ascii
 row-put run at number id totals b r b′ r′ b″ r″ h p m q n t =
-    let names = begun run at (namesOf number id) 23 b r p m (omega arith) in
-    let both = further run at (namesOf number id) 23 b r (totalsText totals (14 * id) 14) 294 b′ r′ names q n (omega arith) in
+    let head = begun run at (headOf number id) 23 b r p m (omega arith) in
+    let both = further run at (headOf number id) 23 b r (totalsText totals (14 * id) 14) 294 b′ r′ head q n (omega arith) in
     ended run at (rowOf number id totals) 318 b″ r″
-    (next-stage run at (namesOf number id ++ totalsText totals (14 * id) 14) 317 b′ r′ (ascii "\n") 1 b″ r″ both t
+    (next-stage run at (headOf number id ++ totalsText totals (14 * id) 14) 317 b′ r′ (ascii "\n") 1 b″ r″ both t
     (omega arith) (omega arith))
 
 -- one line more

@@ -22,31 +22,31 @@ use Rattle.rows.proofs.RowLaws.{ended}
 never : true ≡ false → ⊥
 never e = subst T e tt
 
--- a total that is not below zero, and the number that it is
-pub record Upward (n : ℤ) (read : ℤ) : Type 0 where
-  pub number : ℕ
-  pub small : number < 9223372036854775808
-  pub is : n ≡ pos number
-  pub reads : read ≡ pos number
+-- a total that is not below zero, and its value; `read` is the total as the machine reads it
+pub record FromZero (n : ℤ) (read : ℤ) : Type 0 where
+  pub value : ℕ
+  pub small : value < 9223372036854775808
+  pub is : n ≡ pos value
+  pub reads : read ≡ pos value
 
-pub upward : (n : ℤ) → SFits w64 n → leZ (pos 0) (toZ w64 (ofZ w64 n)) ≡ true → Upward n (toZ w64 (ofZ w64 n))
-upward (pos k) f t = record { number = k; small = f .sfits; is = refl; reads = toZ-ofZ w64 (pos k) f }
-upward (negsuc k) f t = absurd (never (sym t ∙ ap (leZ (pos 0)) (toZ-ofZ w64 (negsuc k) f)))
+pub from-zero : (n : ℤ) → SFits w64 n → leZ (pos 0) (toZ w64 (ofZ w64 n)) ≡ true → FromZero n (toZ w64 (ofZ w64 n))
+from-zero (pos k) f t = record { value = k; small = f .sfits; is = refl; reads = toZ-ofZ w64 (pos k) f }
+from-zero (negsuc k) f t = absurd (never (sym t ∙ ap (leZ (pos 0)) (toZ-ofZ w64 (negsuc k) f)))
 
--- a total below zero, and the number that it is behind -1
-pub record Downward (n : ℤ) (less : ℤ) : Type 0 where
-  pub number : ℕ
-  pub small : number < 9223372036854775808
-  pub is : n ≡ negsuc number
-  pub less-is : less ≡ pos number
-  pub reads : toZ w64 (ofZ w64 less) ≡ pos number
+-- a total below zero, and how far it is beyond -1; `less` is -1 less the total
+pub record BelowZero (n : ℤ) (less : ℤ) : Type 0 where
+  pub beyond : ℕ
+  pub small : beyond < 9223372036854775808
+  pub is : n ≡ negsuc beyond
+  pub less-is : less ≡ pos beyond
+  pub reads : toZ w64 (ofZ w64 less) ≡ pos beyond
 
-pub downward : (n : ℤ) → SFits w64 n → leZ (pos 0) (toZ w64 (ofZ w64 n)) ≡ false → Downward n (negsuc 0 -ℤ toZ w64 (ofZ w64 n))
-downward (pos k) f t = absurd (never (sym (le-leb 0 k (omega arith)) ∙ sym (ap (leZ (pos 0)) (toZ-ofZ w64 (pos k) f)) ∙ t))
-downward (negsuc k) f t =
+pub below-zero : (n : ℤ) → SFits w64 n → leZ (pos 0) (toZ w64 (ofZ w64 n)) ≡ false → BelowZero n (negsuc 0 -ℤ toZ w64 (ofZ w64 n))
+below-zero (pos k) f t = absurd (never (sym (le-leb 0 k (omega arith)) ∙ sym (ap (leZ (pos 0)) (toZ-ofZ w64 (pos k) f)) ∙ t))
+below-zero (negsuc k) f t =
     let e : negsuc 0 -ℤ toZ w64 (ofZ w64 (negsuc k)) ≡ pos k = ap (λ (z : ℤ). negsuc 0 -ℤ z) (toZ-ofZ w64 (negsuc k) f) ∙ less in
     record {
-      number = k;
+      beyond = k;
       small = f .sfits;
       is = refl;
       less-is = e;
@@ -63,65 +63,66 @@ digits-le : (m : ℕ) → m ≤ 9223372036854775808 → length (decimal m) ≤ 1
 unfolding decimalLength
 digits-le m h = let k = length-le 20 m 19 (omega arith) (omega arith) in let e = decimal-wide m in omega arith
 
--- its digits
-module _ (n read : ℤ) (u : Upward n read) where
-  magnitude : natAbs read ≡ u .number
+-- the digits of one that is not
+module _ (n read : ℤ) (u : FromZero n read) where
+  magnitude : natAbs read ≡ u .value
   magnitude = ap natAbs (u .reads)
 
-  pub upward-casts : T (nonNeg read) × Fits w64 (natAbs read)
-  upward-casts = subst (λ z. T (nonNeg z) × Fits w64 (natAbs z)) (sym (u .reads)) (tt, record { fits = omega (arith, u .small) })
+  pub from-zero-casts : T (nonNeg read) × Fits w64 (natAbs read)
+  from-zero-casts = subst (λ z. T (nonNeg z) × Fits w64 (natAbs z)) (sym (u .reads)) (tt, record { fits = omega (arith, u .small) })
 
   digits-short : length (decimal (natAbs read)) ≤ 19
   digits-short = let e = magnitude in let s = u .small in digits-le (natAbs read) (omega arith)
 
-  pub upward-room : (at room : ℕ) → at + 20 ≤ room → at + decimalLength (natAbs read) ≤ room
-  upward-room at room h = let k = digits-short in let e = decimal-wide (natAbs read) in omega arith
+  pub from-zero-room : (at room : ℕ) → at + 20 ≤ room → at + decimalLength (natAbs read) ≤ room
+  from-zero-room at room h = let k = digits-short in let e = decimal-wide (natAbs read) in omega arith
 
-  pub upward-put : (run : List ℕ) (at behind : ℕ) (after : List ℕ) → TextPut run at (decimal (natAbs read)) behind after
+  pub from-zero-put : (run : List ℕ) (at behind : ℕ) (after : List ℕ) → TextPut run at (decimal (natAbs read)) behind after
       → TextPut run at (signed n) behind after × (behind ≤ at + 20)
   unfolding signed
-  upward-put run at behind after p =
+  from-zero-put run at behind after p =
       let k = digits-short in
       let e = p .behind-is in (
         word-put run at (decimal (natAbs read)) (signed n) behind after (ap signed (u .is) ∙ ap decimal (sym magnitude)) p,
         omega arith,
       )
 
--- the minus sign, and the digits behind it
-module _ (n less : ℤ) (d : Downward n less) where
-  behind-sign : natAbs (toZ w64 (ofZ w64 less)) + 1 ≡ suc (d .number)
-  behind-sign = ap (λ (z : ℤ). natAbs z + 1) (d .reads) ∙ add-one (d .number)
+-- the minus sign of one that is, and the digits behind it
+module _ (n less : ℤ) (d : BelowZero n less) where
+  behind-sign : natAbs (toZ w64 (ofZ w64 less)) + 1 ≡ suc (d .beyond)
+  behind-sign = ap (λ (z : ℤ). natAbs z + 1) (d .reads) ∙ add-one (d .beyond)
 
-  pub downward-less : SFits w64 less
-  downward-less = subst (SFits w64) (sym (d .less-is)) (record { sfits = d .small })
+  pub below-zero-less : SFits w64 less
+  below-zero-less = subst (SFits w64) (sym (d .less-is)) (record { sfits = d .small })
 
-  pub downward-casts : T (nonNeg (toZ w64 (ofZ w64 less))) × Fits w64 (natAbs (toZ w64 (ofZ w64 less)))
-  downward-casts =
+  pub below-zero-casts : T (nonNeg (toZ w64 (ofZ w64 less))) × Fits w64 (natAbs (toZ w64 (ofZ w64 less)))
+  below-zero-casts =
       subst (λ z. T (nonNeg z) × Fits w64 (natAbs z)) (sym (d .reads)) (tt, record { fits = omega (arith, d .small) })
 
-  pub downward-adds : Fits w64 (natAbs (toZ w64 (ofZ w64 less)) + 1)
-  downward-adds = subst (Fits w64) (sym behind-sign) (record { fits = omega (arith, d .small) })
+  pub below-zero-adds : Fits w64 (natAbs (toZ w64 (ofZ w64 less)) + 1)
+  below-zero-adds = subst (Fits w64) (sym behind-sign) (record { fits = omega (arith, d .small) })
 
   below-short : length (decimal (natAbs (toZ w64 (ofZ w64 less)) + 1)) ≤ 19
   below-short = let e = behind-sign in let s = d .small in digits-le (natAbs (toZ w64 (ofZ w64 less)) + 1) (omega arith)
 
-  module _ (run : List ℕ) (at between : ℕ) (middle : List ℕ) (h : at + 20 ≤ length run) (p : TextPut run at (ascii "-") between middle) where
+  module _ (run : List ℕ) (at between : ℕ) (middle : List ℕ) (h : at + 20 ≤ length run)
+      (p : TextPut run at (ascii "-") between middle) where
     sign-stage : Stage run at (ascii "-") 1 between middle
     unfolding ascii
     sign-stage = first-stage run at (ascii "-") 1 between middle p (omega arith) (omega arith)
 
-    pub downward-room : between + decimalLength (natAbs (toZ w64 (ofZ w64 less)) + 1) ≤ length middle
-    downward-room =
+    pub below-zero-room : between + decimalLength (natAbs (toZ w64 (ofZ w64 less)) + 1) ≤ length middle
+    below-zero-room =
         let k = below-short in
         let e = decimal-wide (natAbs (toZ w64 (ofZ w64 less)) + 1) in
         let r = room run at (ascii "-") 1 between middle 19 sign-stage (omega arith) in
         omega arith
 
-    pub downward-put : (behind : ℕ) (after : List ℕ)
+    pub below-zero-put : (behind : ℕ) (after : List ℕ)
         → TextPut middle between (decimal (natAbs (toZ w64 (ofZ w64 less)) + 1)) behind after
         → TextPut run at (signed n) behind after × (behind ≤ at + 20)
     unfolding signed
-    downward-put behind after q = ended run at (signed n) 20 behind after
+    below-zero-put behind after q = ended run at (signed n) 20 behind after
         (subst (λ t. Stage run at t 20 behind after)
         (ap (λ (k : ℕ). ascii "-" ++ decimal k) behind-sign ∙ sym (ap signed (d .is)))
         (next-stage run at (ascii "-") 1 between middle (decimal (natAbs (toZ w64 (ofZ w64 less)) + 1)) 19 behind after sign-stage q

@@ -19,13 +19,13 @@ unfoldable pub totalsText : (totals : List ℤ) (from count : ℕ) → List ℕ
 totalsText totals from zero = []
 totalsText totals from (suc n) = totalsText totals from n ++ totalText (getD totals (from + n) (pos 0))
 
--- the file's number and the identification
-unfoldable pub namesOf : (number id : ℕ) → List ℕ
-namesOf number id = decimal number ++ ascii " " ++ decimal id
+-- the first two: the file's number and the identification
+unfoldable pub headOf : (number id : ℕ) → List ℕ
+headOf number id = decimal number ++ ascii " " ++ decimal id
 
 -- an identification's line: the file's number, the identification, its fourteen totals
 unfoldable pub rowOf : (number id : ℕ) (totals : List ℤ) → List ℕ
-rowOf number id totals = namesOf number id ++ totalsText totals (14 * id) 14 ++ ascii "\n"
+rowOf number id totals = headOf number id ++ totalsText totals (14 * id) 14 ++ ascii "\n"
 
 -- the lines of the first n identifications
 unfoldable pub rowsOf : (number n : ℕ) (totals : List ℤ) → List ℕ

@@ -4,8 +4,8 @@ use borrow.Author.Needs.{needs}
 use Rattle.rows.proofs.row.put_row.Statement.{statement}
 use Rattle.rows.proofs.row.put_row.Tie as tie
 
-put-names-requires : tie.Need-put-names-requires
-put-names-requires c κs = search needs
+put-head-requires : tie.Need-put-head-requires
+put-head-requires c κs = search needs
 
 mul-put-totals : tie.Need-mul-put-totals
 mul-put-totals c = search needs
@@ -26,8 +26,8 @@ returns : tie.Need-returns
 unfolding ascii
 returns c = row-put _ _ _ _ _ _ _ _ _ _ _
     (c .before .before .before .before .before .before .before .before .before .before .before .before .before .before .pre .0)
-    (c .before .before .before .before .before .before .before .before .before .before .before .put-names .ensures .0)
-    (c .before .before .before .before .before .before .before .before .before .before .before .put-names .ensures .1)
+    (c .before .before .before .before .before .before .before .before .before .before .before .put-head .ensures .0)
+    (c .before .before .before .before .before .before .before .before .before .before .before .put-head .ensures .1)
     (c .before .before .before .before .before .before .before .put-totals .ensures .0)
     (c .before .before .before .before .before .before .before .put-totals .ensures .1) (c .before .before .put-text .ensures)
 
@@ -35,7 +35,7 @@ pub put-row-spec : {M : Type 1} → statement M
 put-row-spec =
     tie.close
     (tie.spec
-    put-names-requires
+    put-head-requires
     mul-put-totals
     put-totals-requires
     slice-aggregate-put-text

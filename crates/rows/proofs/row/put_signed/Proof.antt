@@ -1,33 +1,33 @@
 use Rattle.line.specs.Text.{ascii}
 use Rattle.rows.proofs.SignLaws.{
-  upward,
-  upward-casts,
-  upward-room,
-  upward-put,
-  downward,
-  downward-less,
-  downward-casts,
-  downward-adds,
-  downward-room,
-  downward-put,
+  from-zero,
+  from-zero-casts,
+  from-zero-room,
+  from-zero-put,
+  below-zero,
+  below-zero-less,
+  below-zero-casts,
+  below-zero-adds,
+  below-zero-room,
+  below-zero-put,
 }
 use borrow.Author.Needs.{needs}
 use Rattle.rows.proofs.row.put_signed.Statement.{statement}
 use Rattle.rows.proofs.row.put_signed.Tie as tie
 
 cast-put-decimal : tie.Need-cast-put-decimal
-cast-put-decimal c = upward-casts _ _ (upward _ (c .before .before .before .fits .n) (c .before .if1 .taken))
+cast-put-decimal c = from-zero-casts _ _ (from-zero _ (c .before .before .before .fits .n) (c .before .if1 .taken))
 
 put-decimal-requires : tie.Need-put-decimal-requires
-put-decimal-requires c κs = upward-room _ _ (upward _ (c .before .before .before .fits .n) (c .before .if1 .taken)) _ _
+put-decimal-requires c κs = from-zero-room _ _ (from-zero _ (c .before .before .before .fits .n) (c .before .if1 .taken)) _ _
     (c .before .before .before .pre)
 
 same-length : tie.Need-same-length
 same-length c = search needs
 
 returns : tie.Need-returns
-returns c = upward-put _ _
-    (upward _ (c .before .before .before .before .before .before .fits .n) (c .before .before .before .before .if1 .taken)) _ _ _ _
+returns c = from-zero-put _ _
+    (from-zero _ (c .before .before .before .before .before .before .fits .n) (c .before .before .before .before .if1 .taken)) _ _ _ _
     (c .before .before .put-decimal .ensures)
 
 slice-aggregate-put-text : tie.Need-slice-aggregate-put-text
@@ -37,21 +37,25 @@ put-text-requires : tie.Need-put-text-requires
 put-text-requires c κs = search needs
 
 sub-put-decimal : tie.Need-sub-put-decimal
-sub-put-decimal c = downward-less _ _
-    (downward _ (c .before .before .before .before .before .before .before .before .fits .n) (c .before .before .before .before .before .before .if1 .left))
+sub-put-decimal c = below-zero-less _ _
+    (below-zero _ (c .before .before .before .before .before .before .before .before .fits .n)
+    (c .before .before .before .before .before .before .if1 .left))
 
 cast-put-decimal-2 : tie.Need-cast-put-decimal-2
-cast-put-decimal-2 c = downward-casts _ _
-    (downward _ (c .before .before .before .before .before .before .before .before .fits .n) (c .before .before .before .before .before .before .if1 .left))
+cast-put-decimal-2 c = below-zero-casts _ _
+    (below-zero _ (c .before .before .before .before .before .before .before .before .fits .n)
+    (c .before .before .before .before .before .before .if1 .left))
 
 add-put-decimal : tie.Need-add-put-decimal
-add-put-decimal c = downward-adds _ _
-    (downward _ (c .before .before .before .before .before .before .before .before .fits .n) (c .before .before .before .before .before .before .if1 .left))
+add-put-decimal c = below-zero-adds _ _
+    (below-zero _ (c .before .before .before .before .before .before .before .before .fits .n)
+    (c .before .before .before .before .before .before .if1 .left))
 
 put-decimal-requires-2 : tie.Need-put-decimal-requires-2
 unfolding ascii
-put-decimal-requires-2 c κs = downward-room _ _
-    (downward _ (c .before .before .before .before .before .before .before .before .fits .n) (c .before .before .before .before .before .before .if1 .left))
+put-decimal-requires-2 c κs = below-zero-room _ _
+    (below-zero _ (c .before .before .before .before .before .before .before .before .fits .n)
+    (c .before .before .before .before .before .before .if1 .left))
     _ _ _ _ (c .before .before .before .before .before .before .before .before .pre) (c .before .before .before .put-text .ensures)
 
 same-length-2 : tie.Need-same-length-2
@@ -59,8 +63,9 @@ same-length-2 c = search needs
 
 returns-2 : tie.Need-returns-2
 unfolding ascii
-returns-2 c = downward-put _ _
-    (downward _ (c .before .before .before .before .before .before .before .before .before .before .before .fits .n) (c .before .before .before .before .before .before .before .before .before .if1 .left))
+returns-2 c = below-zero-put _ _
+    (below-zero _ (c .before .before .before .before .before .before .before .before .before .before .before .fits .n)
+    (c .before .before .before .before .before .before .before .before .before .if1 .left))
     _ _ _ _ (c .before .before .before .before .before .before .before .before .before .before .before .pre)
     (c .before .before .before .before .before .before .put-text .ensures) _ _ (c .before .before .put-decimal2 .ensures)
 

@@ -1,10 +1,10 @@
 use Rattle.line.proofs.LineLaws.{long-le}
 use native.Mathlib.Omega.{arith}
 use Rattle.line.specs.Text.{ascii}
-use Rattle.rows.proofs.RowLaws.{behind-room, id-room, names-put}
+use Rattle.rows.proofs.RowLaws.{behind-room, id-room, head-put}
 use borrow.Author.Needs.{needs}
-use Rattle.rows.proofs.row.put_names.Statement.{statement}
-use Rattle.rows.proofs.row.put_names.Tie as tie
+use Rattle.rows.proofs.row.put_head.Statement.{statement}
+use Rattle.rows.proofs.row.put_head.Tie as tie
 
 put-decimal-requires : tie.Need-put-decimal-requires
 put-decimal-requires c κs = let k = long-le (c .before .before .args .number) (omega arith) in omega arith
@@ -29,14 +29,14 @@ same-length c = search needs
 
 returns : tie.Need-returns
 unfolding ascii
-returns c = names-put _ _ _ (omega arith) _ _
+returns c = head-put _ _ _ (omega arith) _ _
     (c .before .before .before .before .before .before .before .before .before .before .before .put-decimal .ensures) _
     (c .before .before .before .before .before .before .before .before .before .before .before .before .before .before .pre .0)
     (c .before .before .before .before .before .before .before .before .before .before .before .before .before .before .pre .1) _ _
     (c .before .before .before .before .before .before .put-text .ensures) _ _ (c .before .before .put-decimal2 .ensures)
 
-pub put-names-spec : {M : Type 1} → statement M
-put-names-spec =
+pub put-head-spec : {M : Type 1} → statement M
+put-head-spec =
     tie.close
     (tie.spec
     put-decimal-requires
