@@ -19,6 +19,7 @@ use Rattle.line.proofs.LineLaws.{word-put, decimal-wide}
 use Rattle.rows.specs.Rows.{signed}
 use Rattle.rows.proofs.RowLaws.{ended}
 
+-- a test has one answer
 never : true ≡ false → ⊥
 never e = subst T e tt
 
@@ -58,12 +59,24 @@ below-zero (negsuc k) f t =
         ap (λ (b : Bool). cond b (negsuc (1 - suc (suc k))) (pos (suc k - 1))) (le-ltb (suc k) 1 (omega arith))
         ∙ ap pos (let e : suc k - 1 ≡ k = omega arith in e)
 
+-- -1 less a total below zero fits, as a number with a sign and as one without
+module _ (n less : ℤ) (d : BelowZero n less) where
+  pub below-zero-less : SFits w64 less
+  below-zero-less = subst (SFits w64) (sym (d .less-is)) (record { sfits = d .small })
+
+  pub below-zero-casts : T (nonNeg (toZ w64 (ofZ w64 less))) × Fits w64 (natAbs (toZ w64 (ofZ w64 less)))
+  below-zero-casts =
+      subst (λ z. T (nonNeg z) × Fits w64 (natAbs z)) (sym (d .reads)) (tt, record { fits = omega (arith, d .small) })
+
+  pub below-zero-small : natAbs (toZ w64 (ofZ w64 less)) < 9223372036854775808
+  below-zero-small = let e = ap natAbs (d .reads) in omega (arith, d .small)
+
 -- 64 bits with a sign have at most 19 digits
 digits-le : (m : ℕ) → m ≤ 9223372036854775808 → length (decimal m) ≤ 19
 unfolding decimalLength
 digits-le m h = let k = length-le 20 m 19 (omega arith) (omega arith) in let e = decimal-wide m in omega arith
 
--- the digits of one that is not
+-- the digits of a total that is not below zero
 module _ (n read : ℤ) (u : FromZero n read) where
   magnitude : natAbs read ≡ u .value
   magnitude = ap natAbs (u .reads)
@@ -87,43 +100,28 @@ module _ (n read : ℤ) (u : FromZero n read) where
         omega arith,
       )
 
--- the minus sign of one that is, and the digits behind it
-module _ (n less : ℤ) (d : BelowZero n less) where
-  behind-sign : natAbs (toZ w64 (ofZ w64 less)) + 1 ≡ suc (d .beyond)
-  behind-sign = ap (λ (z : ℤ). natAbs z + 1) (d .reads) ∙ add-one (d .beyond)
+-- the minus sign of a total below zero, and the digits behind it
+module _ (run : List ℕ) (at between : ℕ) (middle : List ℕ) (h : at + 20 ≤ length run)
+    (p : TextPut run at (ascii "-") between middle) where
+  sign-stage : Stage run at (ascii "-") 1 between middle
+  unfolding ascii
+  sign-stage = first-stage run at (ascii "-") 1 between middle p (omega arith) (omega arith)
 
-  pub below-zero-less : SFits w64 less
-  below-zero-less = subst (SFits w64) (sym (d .less-is)) (record { sfits = d .small })
+  pub sign-room : (m : ℕ) → m ≤ 9223372036854775808 → between + decimalLength m ≤ length middle
+  sign-room m l =
+      let k = digits-le m l in
+      let e = decimal-wide m in
+      let r = room run at (ascii "-") 1 between middle 19 sign-stage (omega arith) in
+      omega arith
 
-  pub below-zero-casts : T (nonNeg (toZ w64 (ofZ w64 less))) × Fits w64 (natAbs (toZ w64 (ofZ w64 less)))
-  below-zero-casts =
-      subst (λ z. T (nonNeg z) × Fits w64 (natAbs z)) (sym (d .reads)) (tt, record { fits = omega (arith, d .small) })
-
-  pub below-zero-adds : Fits w64 (natAbs (toZ w64 (ofZ w64 less)) + 1)
-  below-zero-adds = subst (Fits w64) (sym behind-sign) (record { fits = omega (arith, d .small) })
-
-  below-short : length (decimal (natAbs (toZ w64 (ofZ w64 less)) + 1)) ≤ 19
-  below-short = let e = behind-sign in let s = d .small in digits-le (natAbs (toZ w64 (ofZ w64 less)) + 1) (omega arith)
-
-  module _ (run : List ℕ) (at between : ℕ) (middle : List ℕ) (h : at + 20 ≤ length run)
-      (p : TextPut run at (ascii "-") between middle) where
-    sign-stage : Stage run at (ascii "-") 1 between middle
-    unfolding ascii
-    sign-stage = first-stage run at (ascii "-") 1 between middle p (omega arith) (omega arith)
-
-    pub below-zero-room : between + decimalLength (natAbs (toZ w64 (ofZ w64 less)) + 1) ≤ length middle
-    below-zero-room =
-        let k = below-short in
-        let e = decimal-wide (natAbs (toZ w64 (ofZ w64 less)) + 1) in
-        let r = room run at (ascii "-") 1 between middle 19 sign-stage (omega arith) in
-        omega arith
-
-    pub below-zero-put : (behind : ℕ) (after : List ℕ)
-        → TextPut middle between (decimal (natAbs (toZ w64 (ofZ w64 less)) + 1)) behind after
-        → TextPut run at (signed n) behind after × (behind ≤ at + 20)
-    unfolding signed
-    below-zero-put behind after q = ended run at (signed n) 20 behind after
-        (subst (λ t. Stage run at t 20 behind after)
-        (ap (λ (k : ℕ). ascii "-" ++ decimal k) behind-sign ∙ sym (ap signed (d .is)))
-        (next-stage run at (ascii "-") 1 between middle (decimal (natAbs (toZ w64 (ofZ w64 less)) + 1)) 19 behind after sign-stage q
-        below-short (omega arith)))
+  pub below-zero-put : (n less : ℤ) → BelowZero n less → (behind : ℕ) (after : List ℕ)
+      → TextPut middle between (decimal (natAbs (toZ w64 (ofZ w64 less)) + 1)) behind after
+      → TextPut run at (signed n) behind after × (behind ≤ at + 20)
+  unfolding signed
+  below-zero-put n less d behind after q =
+      let k = below-zero-small n less d in
+      let e : natAbs (toZ w64 (ofZ w64 less)) + 1 ≡ suc (d .beyond) = ap (λ (z : ℤ). natAbs z + 1) (d .reads) ∙ add-one (d .beyond) in
+      ended run at (signed n) 20 behind after
+      (subst (λ t. Stage run at t 20 behind after) (ap (λ (m : ℕ). ascii "-" ++ decimal m) e ∙ sym (ap signed (d .is)))
+      (next-stage run at (ascii "-") 1 between middle (decimal (natAbs (toZ w64 (ofZ w64 less)) + 1)) 19 behind after sign-stage q
+      (digits-le (natAbs (toZ w64 (ofZ w64 less)) + 1) (omega arith)) (omega arith)))

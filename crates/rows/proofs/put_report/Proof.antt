@@ -15,11 +15,10 @@ loop-holds : tie.Need-loop-holds Inv-loop μ-loop
 loop-holds c = growing-none _ _ _ _ _ (rows-none _ _)
 
 put-row-requires : tie.Need-put-row-requires Inv-loop μ-loop
-put-row-requires c κs = (
-  growing-room _ _ _ _ _ _ _ _ (c .before .before .loop .inv) (omega arith) (omega (arith, c .before .before .before .before .pre)),
-  omega arith,
-  c .before .before .before .before .pre .1,
-)
+put-row-requires c κs =
+    let k = growing-room _ _ _ _ _ _ _ _ (c .before .before .loop .inv) (omega arith)
+    (omega (arith, c .before .before .before .before .pre)) in
+    (omega arith, omega arith, c .before .before .before .before .pre .1)
 
 add-id : tie.Need-add-id Inv-loop μ-loop
 add-id c = omega arith

@@ -1,3 +1,4 @@
+use native.Mathlib.Omega.{arith}
 use Rattle.line.specs.Text.{ascii}
 use Rattle.rows.proofs.SignLaws.{
   from-zero,
@@ -7,8 +8,8 @@ use Rattle.rows.proofs.SignLaws.{
   below-zero,
   below-zero-less,
   below-zero-casts,
-  below-zero-adds,
-  below-zero-room,
+  below-zero-small,
+  sign-room,
   below-zero-put,
 }
 use borrow.Author.Needs.{needs}
@@ -47,27 +48,28 @@ cast-put-decimal-2 c = below-zero-casts _ _
     (c .before .before .before .before .before .before .if1 .left))
 
 add-put-decimal : tie.Need-add-put-decimal
-add-put-decimal c = below-zero-adds _ _
-    (below-zero _ (c .before .before .before .before .before .before .before .before .fits .n)
-    (c .before .before .before .before .before .before .if1 .left))
+add-put-decimal c =
+    let k = below-zero-small _ _ (below-zero _ (c .before .before .before .before .before .before .before .before .fits .n)
+    (c .before .before .before .before .before .before .if1 .left)) in
+    omega arith
 
 put-decimal-requires-2 : tie.Need-put-decimal-requires-2
 unfolding ascii
-put-decimal-requires-2 c κs = below-zero-room _ _
-    (below-zero _ (c .before .before .before .before .before .before .before .before .fits .n)
-    (c .before .before .before .before .before .before .if1 .left))
-    _ _ _ _ (c .before .before .before .before .before .before .before .before .pre) (c .before .before .before .put-text .ensures)
+put-decimal-requires-2 c κs =
+    let k = below-zero-small _ _ (below-zero _ (c .before .before .before .before .before .before .before .before .fits .n)
+    (c .before .before .before .before .before .before .if1 .left)) in
+    sign-room _ _ _ _ (c .before .before .before .before .before .before .before .before .pre)
+    (c .before .before .before .put-text .ensures) _ (omega arith)
 
 same-length-2 : tie.Need-same-length-2
 same-length-2 c = search needs
 
 returns-2 : tie.Need-returns-2
 unfolding ascii
-returns-2 c = below-zero-put _ _
+returns-2 c = below-zero-put _ _ _ _ (c .before .before .before .before .before .before .before .before .before .before .before .pre)
+    (c .before .before .before .before .before .before .put-text .ensures) _ _
     (below-zero _ (c .before .before .before .before .before .before .before .before .before .before .before .fits .n)
-    (c .before .before .before .before .before .before .before .before .before .if1 .left))
-    _ _ _ _ (c .before .before .before .before .before .before .before .before .before .before .before .pre)
-    (c .before .before .before .before .before .before .put-text .ensures) _ _ (c .before .before .put-decimal2 .ensures)
+    (c .before .before .before .before .before .before .before .before .before .if1 .left)) _ _ (c .before .before .put-decimal2 .ensures)
 
 pub put-signed-spec : {M : Type 1} → statement M
 put-signed-spec =
