@@ -1,4 +1,4 @@
-// A record's line, as text.
+// A record's line, as text; and text and numbers in decimal, for other lines.
 mod text;
 
 ghost use mathlib.Core.Path.{_≡_};
@@ -6,11 +6,11 @@ ghost use Prim.Native.Nat.{_+_, _≤_};
 ghost use lib.ListN.{length};
 ghost use Rattle.line.specs.Lines.{headOf, lineOf, valueOf, wordOf};
 ghost use Rattle.line.specs.Text.{TextPut};
-use crate::text::put_decimal;
 use crate::text::put_hex;
-use crate::text::put_text;
 use registers::Outcome;
 use registers::Reply;
+pub use text::put_decimal;
+pub use text::put_text;
 
 // The number that a line shows.
 fn value_of(outcome: Outcome) -> u32

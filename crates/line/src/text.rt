@@ -41,7 +41,7 @@ fn decimal_length(n: u64) -> usize
 }
 
 // Writes a text.
-pub(crate) fn put_text(out: &mut [u8], at: usize, text: &[u8]) -> usize
+pub fn put_text(out: &mut [u8], at: usize, text: &[u8]) -> usize
     requires { ⌜ at + length (now text) ≤ length (now out) ⌝ }
     ensures { λ behind. ⌜ TextPut (now (out .entry)) at (now (text .entry)) behind (now (out .exit)) ⌝ }
 {
@@ -55,7 +55,7 @@ pub(crate) fn put_text(out: &mut [u8], at: usize, text: &[u8]) -> usize
 }
 
 // Writes a number in decimal.
-pub(crate) fn put_decimal(out: &mut [u8], at: usize, n: u64) -> usize
+pub fn put_decimal(out: &mut [u8], at: usize, n: u64) -> usize
     requires { ⌜ at + decimalLength n ≤ length (now out) ⌝ }
     ensures { λ behind. ⌜ TextPut (now (out .entry)) at (decimal n) behind (now (out .exit)) ⌝ }
 {
