@@ -1,1 +1,4 @@
 pub mod TotalLaws
+pub mod GainLaws
+pub mod StepLaws
+pub mod TallyLaws

@@ -212,3 +212,10 @@ module _ (a b : ℕ) (h : a < 4294967296) (k : b < 4294967296) where
 
   pub minus-is : toZ w64 (ofZ w64 (toZ w64 a -ℤ toZ w64 b)) ≡ pos a -ℤ pos b
   minus-is = read-back (toZ w64 a -ℤ toZ w64 b) minus-fits ∙ sides
+
+-- an amount as it is passed on
+pub wide-passed : (z : ℤ) (n : ℕ) → z ≡ pos n → n < 4294967296 → toZ w64 (ofZ w64 z) ≡ pos n
+wide-passed z n e h = read-back z (small-fits z (amount-small z n e h)) ∙ e
+
+pub change-passed : (z : ℤ) (a b : ℕ) → z ≡ pos a -ℤ pos b → a < 4294967296 → b < 4294967296 → toZ w64 (ofZ w64 z) ≡ pos a -ℤ pos b
+change-passed z a b e h k = read-back z (small-fits z (change-small z a b e h k)) ∙ e

@@ -10,8 +10,11 @@ use crate::totals::book;
 use registers::Outcome;
 
 const SERVED: u32 = 0;
+
 const LOADS: u32 = 1;
+
 const EMPTIED: u32 = 12;
+
 const CHANGE: u32 = 13;
 
 // The fault values that have a column: 1 to 8, 16 and 32.

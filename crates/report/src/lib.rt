@@ -1,8 +1,11 @@
 // The report over a trace: what its records give to the totals of each identification.
 mod gains;
+mod steps;
 mod totals;
+mod traces;
 
 use registers::Registers;
+pub use traces::run;
 
 // After some records: the registers, and whether every total is within the limit.
 pub struct Counted {

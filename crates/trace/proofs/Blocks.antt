@@ -19,7 +19,7 @@ use Rattle.trace.specs.declared.Command.the-variants.{Malformed}
 use Rattle.trace.proofs.TraceLaws.{lines-append, machine-append, commands-length}
 
 -- so many records, and so many behind them
-split : (input : List ℕ) (i k l : ℕ) → commandsFrom input i (k + l) ≡ commandsFrom input i k ++ commandsFrom input (i + k) l
+pub split : (input : List ℕ) (i k l : ℕ) → commandsFrom input i (k + l) ≡ commandsFrom input i k ++ commandsFrom input (i + k) l
 unfolding commandsFrom
 split input i zero l = ap₂ (commandsFrom input) (sym (add-zero i)) (zero-add l)
 split input i (suc k) l =

@@ -1,52 +1,45 @@
+use mathlib.Core.Path.{_∙_}
+use native.Mathlib.Omega.{arith}
+use borrow.Author.Tests.{not-false}
+use Rattle.report.proofs.GainLaws.{column-small, fault-stop, fault-none, fault-done}
 use borrow.Author.Needs.{needs}
 use Rattle.report.proofs.gains.book_fault.Statement.{statement}
 use Rattle.report.proofs.gains.book_fault.Tie as tie
-use Rattle.report.proofs.gains.book_fault.Reads as reads
-use Rattle.report.proofs.gains.book_fault.Lts as lts
-use Rattle.report.proofs.gains.book_served.Reads as book-served-reads
-use Rattle.report.proofs.gains.fault_column.Reads as fault-column-reads
-use Rattle.report.proofs.gains.has_column.Reads as has-column-reads
-use Rattle.report.proofs.totals.book.Reads as book-reads
 
--- src/gains.rt:67:9
 book-served-requires : tie.Need-book-served-requires
 book-served-requires c κs = search needs
 
--- src/gains.rt:68:9
 same-length : tie.Need-same-length
 same-length c = search needs
 
--- src/gains.rt:68:9
 returns : tie.Need-returns
-returns c = ?
+returns c = fault-stop _ _ _ _ _ _ (c .before .before .book-served .ensures) (c .if1 .taken)
 
--- src/gains.rt:70:9
 has-column-requires : tie.Need-has-column-requires
 has-column-requires c κs = search needs
 
--- src/gains.rt:71:9
 same-length-2 : tie.Need-same-length-2
 same-length-2 c = search needs
 
--- src/gains.rt:71:9
 returns-2 : tie.Need-returns-2
-returns-2 c = ?
+returns-2 c = fault-none _ _ _ _ _ _ (c .before .before .before .before .book-served .ensures) (c .before .before .if1 .left) _ (c .before .has-column .ensures) (c .if2 .taken)
 
--- src/gains.rt:73:9
 fault-column-requires : tie.Need-fault-column-requires
 fault-column-requires c κs = search needs
 
--- src/gains.rt:74:5
 book-requires : tie.Need-book-requires
-book-requires c κs = ?
+book-requires c κs = (
+  c .before .before .before .before .before .totals .given ∙ c .before .before .before .before .before .before .before .before .pre .0,
+  c .before .before .before .before .before .before .book-served .ensures .in-limit (not-false (c .before .before .before .before .before .before .book-served .result) (c .before .before .before .before .if1 .left)),
+  column-small _ _ (c .before .fault-column .ensures),
+  omega arith,
+)
 
--- src/gains.rt:63:1
 same-length-3 : tie.Need-same-length-3
 same-length-3 c = search needs
 
--- src/gains.rt:63:1
 returns-3 : tie.Need-returns-3
-returns-3 c = ?
+returns-3 c = fault-done _ _ _ _ _ _ (c .before .before .before .before .before .before .before .before .book-served .ensures) (c .before .before .before .before .before .before .if1 .left) _ (c .before .before .before .before .before .has-column .ensures) (c .before .before .before .before .if2 .left) _ (c .before .before .before .fault-column .ensures) _ _ (c .before .book .ensures)
 
 pub book-fault-spec : {M : Type 1} → statement M
 book-fault-spec =

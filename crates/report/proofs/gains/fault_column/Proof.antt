@@ -1,24 +1,20 @@
+use native.Mathlib.Omega.{arith}
+use Rattle.report.proofs.GainLaws.{column-low, column-absent, column-broken}
 use borrow.Author.Needs.{needs}
 use Rattle.report.proofs.gains.fault_column.Statement.{statement}
 use Rattle.report.proofs.gains.fault_column.Tie as tie
-use Rattle.report.proofs.gains.fault_column.Reads as reads
-use Rattle.report.proofs.gains.fault_column.Lts as lts
 
--- src/gains.rt:28:16
 add-result : tie.Need-add-result
 add-result c = search needs
 
--- src/gains.rt:28:9
 returns : tie.Need-returns
-returns c = ?
+returns c = column-low _ (c .if1 .taken)
 
--- src/gains.rt:31:9
 returns-2 : tie.Need-returns-2
-returns-2 c = ?
+returns-2 c = column-absent _ (c .before .if1 .left) (c .if2 .taken)
 
--- src/gains.rt:24:1
 returns-3 : tie.Need-returns-3
-returns-3 c = ?
+returns-3 c = column-broken _ (c .before .if1 .left) (c .if2 .left)
 
 pub fault-column-spec : {M : Type 1} → statement M
 fault-column-spec = tie.close (tie.spec add-result returns returns-2 returns-3)

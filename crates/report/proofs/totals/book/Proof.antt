@@ -23,7 +23,7 @@ slice-copy-out-old : tie.Need-slice-copy-out-old
 slice-copy-out-old c = search needs
 
 add-total : tie.Need-add-total
-add-total c = 
+add-total c =
     let a = c .before .before .args in book-fits (a .id) (a .column) (a .amount) (a .totals .now) (c .before .before .pre .1) (c .before .before .pre .3)
 
 mul-total : tie.Need-mul-total
@@ -39,7 +39,7 @@ same-length : tie.Need-same-length
 same-length c = search needs
 
 returns-2 : tie.Need-returns-2
-returns-2 c = 
+returns-2 c =
     let a = c .before .before .before .args in
     book-done (a .id) (a .column) (a .amount) (a .totals .now) (c .before .before .before .pre .1) (c .before .before .before .pre .3) _ _ refl (c .is-within .ensures) (c .before .before .before .pre .0) (c .before .before .before .pre .2) (c .before .before .if1 .left)
 
