@@ -1,8 +1,8 @@
 //! Whole traces, each run by a process of its own and compared byte for byte.
 
 mod outcome;
-mod record;
-mod script;
+pub mod record;
+pub mod script;
 
 use crate::program::Program;
 use crate::random::Random;

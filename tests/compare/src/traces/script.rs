@@ -121,7 +121,7 @@ fn world(random: &mut Random, size: (usize, usize)) -> World {
 }
 
 /// A setting with a value too large, or where it has none a store past the table memory.
-fn refused(random: &mut Random) -> Record {
+pub fn refused(random: &mut Random) -> Record {
     let number = random.below(SETTINGS);
     let value = match number {
         0 => random.pick(&[0x1_0000, 0x1_0000, 0x1_0001, 0x8000_0000, u32::MAX]),
@@ -148,7 +148,7 @@ fn refused(random: &mut Random) -> Record {
 }
 
 /// The record with one thing wrong, or with several.
-fn malformed(random: &mut Random, record: Record) -> Record {
+pub fn malformed(random: &mut Random, record: Record) -> Record {
     let any_kind = random.below(8) as u64;
     let kind = random.pick(&[record.kind, any_kind]);
     let record = Record { kind, ..record };

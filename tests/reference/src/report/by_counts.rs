@@ -36,14 +36,14 @@ impl ByCounts {
         counts
     }
 
-    /// Whether some root names the directory.
-    pub fn has_directory(&self, directory: usize) -> bool {
-        self.roots[directory] > 0
+    /// How many roots name the directory.
+    pub fn roots_of(&self, directory: usize) -> u32 {
+        self.roots[directory]
     }
 
-    /// Whether a directory that some root names has a word that names the table.
-    pub fn has_table(&self, table: usize) -> bool {
-        self.named[table] > 0
+    /// How many words name the table in directories that some root names.
+    pub fn words_of(&self, table: usize) -> u32 {
+        self.named[table]
     }
 
     fn replace(&mut self, index: usize, old: u32, new: u32) {
@@ -81,13 +81,13 @@ impl ByCounts {
         let tables = self.named.len();
         if let Some(table) = named_by(new, tables) {
             self.names[directory][table] += 1;
-            if self.has_directory(directory) {
+            if self.roots[directory] > 0 {
                 self.take_table(table, 1);
             }
         }
         if let Some(table) = named_by(old, tables) {
             self.names[directory][table] -= 1;
-            if self.has_directory(directory) {
+            if self.roots[directory] > 0 {
                 self.leave_table(table, 1);
             }
         }
@@ -96,7 +96,7 @@ impl ByCounts {
     fn replace_leaf(&mut self, table: usize, old: u32, new: u32) {
         let (was, is) = (usize::from(old >= PRESENT), usize::from(new >= PRESENT));
         self.present[table] = self.present[table] + is - was;
-        if self.has_table(table) {
+        if self.named[table] > 0 {
             self.count = self.count + is - was;
         }
     }

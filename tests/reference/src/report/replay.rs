@@ -31,14 +31,6 @@ impl<L: LeafWords> Replay<L> {
         &self.totals
     }
 
-    pub fn unit(&self) -> &Unit {
-        &self.unit
-    }
-
-    pub fn leaves(&self) -> &L {
-        &self.leaves
-    }
-
     /// Makes the record's call and books it under CONTEXT as the call found it. "Totals equal those
     /// defined from the accepted records": a refused one books nothing. The refusal that comes back
     /// is the report's own and stops the file.
