@@ -26,6 +26,8 @@ pub fn trace(random: &mut Random, records: usize, piece: usize) -> Vec<u8> {
 struct Script {
     bytes: Vec<u8>,
     unit: Unit,
+    /// Few, so that a store to one of them loses a directory, or all.
+    roots: Vec<usize>,
     /// Directories and tables, few enough to be named by several words.
     numbers: Numbers,
     /// Places in a directory and in a table. In the first half of a table each is both.
@@ -46,6 +48,10 @@ impl Script {
         Script {
             bytes: Vec::with_capacity(RECORD_BYTES),
             unit: Unit::start(),
+            roots: match random.one_in(3) {
+                true => (0..=GLOBAL_ROOT).collect(),
+                false => vec![random.below(63), random.below(63), GLOBAL_ROOT],
+            },
             numbers: numbers(random),
             tops,
             lows,
@@ -98,8 +104,7 @@ impl Script {
     /// A root, a directory word or a leaf; leaves are no rarer than the words that lead to them.
     fn place(&self, random: &mut Random) -> Place {
         let (index, level) = match random.below(8) {
-            0 => (GLOBAL_ROOT, Level::Root),
-            1 | 2 => (self.root(random), Level::Root),
+            0..=2 => (random.pick(&self.roots), Level::Root),
             3 | 4 => {
                 let directory = random.pick(&self.numbers.directories);
                 let index = DIRECTORY_WORDS * directory + random.pick(&self.tops);
@@ -115,14 +120,6 @@ impl Script {
             index,
             tree: Tree::Own,
             level,
-        }
-    }
-
-    /// Often the context's own.
-    fn root(&self, random: &mut Random) -> usize {
-        match random.one_in(2) {
-            true => self.unit.registers.context as usize,
-            false => random.below(64),
         }
     }
 
