@@ -27,12 +27,13 @@ pub const NAMED: [&str; 8] = [
 ];
 
 /// Why each name is unread.
-pub const UNREAD: [&str; 8] = [
+pub const UNREAD: [&str; 9] = [
     "no such file",
     "a directory",
     "an empty name",
-    "4,096 bytes",
-    "a long name of 10,000 bytes",
+    "4,096 bytes that lead to a file",
+    "4,096 bytes, 4,095 of which lead to a file",
+    "10,000 bytes, 4,095 of which lead to a file",
     "256 bytes in its folder",
     "a file as a folder",
     "a symbolic link to itself",
@@ -53,10 +54,10 @@ pub fn put(comparison: &mut Comparison, random: &mut Random) -> Result<(), Strin
     for case in readable().into_iter().chain(unreadable()) {
         comparison.put(vec![case])?;
     }
-    let in_turn = readable().into_iter().zip(unreadable());
-    let mut all: Vec<Case> = in_turn.flat_map(|(file, other)| [other, file]).collect();
-    all.push(Case::of(script::trace(random, RECORDS, 0), CountBy::Walks));
-    comparison.put(all)
+    let another = Case::of(script::trace(random, RECORDS, 0), CountBy::Walks);
+    let files = readable().into_iter().chain([another]);
+    let in_turn = unreadable().into_iter().zip(files);
+    comparison.put(in_turn.flat_map(|(other, file)| [other, file]).collect())
 }
 
 fn readable(from_the_root: OsString, trace: &[u8]) -> Vec<Case> {
@@ -84,7 +85,8 @@ fn unreadable() -> Vec<Case> {
         "folder".into(),
         OsString::new(),
         filled_up("f", LONGEST + 1),
-        filled_up("f", 10_000),
+        behind_a_file(LONGEST + 1),
+        behind_a_file(10_000),
         "n".repeat(LONGEST_IN_FOLDER + 1).into(),
         "f/f".into(),
         "loop".into(),
@@ -121,4 +123,11 @@ fn filled_up(letter: &str, length: usize) -> OsString {
     let name = [begin, &steps, letter].concat();
     assert_eq!(name.len(), length);
     name.into()
+}
+
+/// A name of so many bytes, the first 4,095 of which are a file's.
+fn behind_a_file(length: usize) -> OsString {
+    let mut name = filled_up("f", LONGEST);
+    name.push("f".repeat(length - LONGEST));
+    name
 }

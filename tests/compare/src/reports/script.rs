@@ -37,8 +37,8 @@ struct Script {
 
 impl Script {
     fn begin(random: &mut Random) -> Script {
-        let tops: Vec<usize> = (0..3).map(|_| random.below(DIRECTORY_WORDS)).collect();
-        let mut lows: Vec<usize> = (0..4).map(|_| random.below(TABLE_WORDS)).collect();
+        let tops: Vec<usize> = (0..3).map(|_| place_in(random, DIRECTORY_WORDS)).collect();
+        let mut lows: Vec<usize> = (0..4).map(|_| place_in(random, TABLE_WORDS)).collect();
         if random.one_in(2) {
             lows.extend(
                 tops.iter()
@@ -104,7 +104,7 @@ impl Script {
     /// A root, a directory word or a leaf; leaves are no rarer than the words that lead to them.
     fn place(&self, random: &mut Random) -> Place {
         let (index, level) = match random.below(8) {
-            0..=2 => (random.pick(&self.roots), Level::Root),
+            0..=2 => (self.root(random), Level::Root),
             3 | 4 => {
                 let directory = random.pick(&self.numbers.directories);
                 let index = DIRECTORY_WORDS * directory + random.pick(&self.tops);
@@ -123,6 +123,15 @@ impl Script {
         }
     }
 
+    /// At times a word behind the roots, which leads nowhere.
+    fn root(&self, random: &mut Random) -> usize {
+        match random.below(32) {
+            0 => GLOBAL_ROOT + 1,
+            1 => random.below(DIRECTORY_WORDS),
+            _ => random.pick(&self.roots),
+        }
+    }
+
     /// A word that names the table in which it stands.
     fn own_table(&self, index: usize) -> u32 {
         PRESENT | (index / TABLE_WORDS) as u32
@@ -136,6 +145,15 @@ impl Script {
             write: random.one_in(2),
             draw: random.bits(2),
         }))
+    }
+}
+
+/// A place in a stretch of so many words, often the first or the last.
+fn place_in(random: &mut Random, length: usize) -> usize {
+    match random.below(6) {
+        0 => 0,
+        1 => length - 1,
+        _ => random.below(length),
     }
 }
 

@@ -3,7 +3,7 @@
 use crate::cases::forest::{DIRECTORY_WORDS, PRESENT, TABLE_WORDS};
 use crate::outcome::store::{name, target, Target, TARGETS};
 use crate::traces::record::Record;
-use reference::report::{ByCounts, LeafWords, IDENTIFICATIONS};
+use reference::report::{ByCounts, LeafWords, IDENTIFICATIONS, ROOTS};
 use reference::trace::Unit;
 use reference::*;
 use std::cmp::Ordering;
@@ -18,6 +18,7 @@ const INVALID_LEAF: &str = "store of a leaf with valid 0, leaf words rise";
 const OTHER_ROOT: &str = "store changes the leaf words under an identification without a root";
 const STILL_ROOTED: &str = "store leaves a directory that another root names";
 const STILL_NAMED: &str = "store leaves a table that another word names";
+const BEHIND_ROOTS: &str = "store of a good root's word to word 64";
 const LEAF_OF_MANY: &str = "store to a leaf that several words lead to, leaf words change";
 const FINDS_ITSELF: &str = "store makes its own word a leaf";
 const LOSES_ITSELF: &str = "store of a present word that makes its own word no leaf";
@@ -41,6 +42,7 @@ pub fn all() -> Vec<String> {
         OTHER_ROOT,
         STILL_ROOTED,
         STILL_NAMED,
+        BEHIND_ROOTS,
         LEAF_OF_MANY,
         FINDS_ITSELF,
         LOSES_ITSELF,
@@ -150,6 +152,10 @@ impl Before {
             ),
             (is_root && still(ByCounts::roots_of), STILL_ROOTED),
             (is_directory && still(ByCounts::words_of), STILL_NAMED),
+            (
+                self.index == ROOTS && led(Target::Root, new, unit) == Led::On,
+                BEHIND_ROOTS,
+            ),
             (
                 self.target == Target::Leaf && changes && leaves.words_of(table) > 1,
                 LEAF_OF_MANY,
