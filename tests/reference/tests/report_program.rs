@@ -58,18 +58,7 @@ fn lines(number: usize, totals: &[(usize, &str)]) -> String {
 }
 
 /// Document 01's worked example.
-const WORKED: [u64; 10] = [
-    0x1000000580000001,
-    0x1000020080000001,
-    0x10000401D0000123,
-    0x2000000000000005,
-    0x7000000000000001,
-    0x0A00000000002ABC,
-    0x0C00000000002ABC,
-    0x0900000000004000,
-    0x1000040100000000,
-    0xF000000000000000,
-];
+const WORKED: &[u8] = include_bytes!("../../../examples/worked.trace");
 
 #[test]
 fn the_worked_example() {
@@ -81,7 +70,7 @@ fn the_worked_example() {
             (5, "3 1 0 0 0 0 0 0 0 0 1 0 1 -1"),
         ],
     );
-    assert_eq!(text(3, &bytes(&WORKED)), expected);
+    assert_eq!(text(3, WORKED), expected);
 }
 
 #[test]
@@ -278,8 +267,8 @@ impl Read for Failing<'_> {
 
 #[test]
 fn a_read_that_fails_leaves_the_file_unread() {
-    for records in [&[][..], &WORKED] {
-        let report = Report::of::<ByCounts>(Failing(&bytes(records)));
+    for trace in [&[][..], WORKED] {
+        let report = Report::of::<ByCounts>(Failing(trace));
         assert_eq!(report, Report::Unread);
     }
 }
@@ -294,9 +283,9 @@ impl Folder {
         Folder(path)
     }
 
-    fn file(&self, name: &str, records: &[u64]) -> PathBuf {
+    fn file(&self, name: &str, trace: &[u8]) -> PathBuf {
         let path = self.0.join(name);
-        std::fs::write(&path, bytes(records)).unwrap();
+        std::fs::write(&path, trace).unwrap();
         path
     }
 }
@@ -310,7 +299,7 @@ impl Drop for Folder {
 #[test]
 fn numbers_go_by_argument_and_each_file_starts_anew() {
     let folder = Folder::new("names");
-    let worked = folder.file("worked", &WORKED);
+    let worked = folder.file("worked", WORKED);
     let empty = folder.file("empty", &[]);
     let names = [
         worked.as_os_str(),
@@ -323,10 +312,10 @@ fn numbers_go_by_argument_and_each_file_starts_anew() {
     let mut output = Vec::new();
     report::run(names, &mut output).unwrap();
     let expected = [
-        text(0, &bytes(&WORKED)),
+        text(0, WORKED),
         "1 unread\n2 unread\n".to_string(),
         lines(3, &[]),
-        text(4, &bytes(&WORKED)),
+        text(4, WORKED),
         "5 unread\n".to_string(),
     ];
     assert_eq!(String::from_utf8(output).unwrap(), expected.concat());

@@ -59,29 +59,35 @@ impl Comparison {
     /// One call, with the outcome that it is there for. A program that can't be run, or ends badly,
     /// ends the comparison.
     pub fn put_call(&mut self, cases: Vec<Case>, remark: Option<&str>) -> Result<(), String> {
-        let names = self.names(&cases)?;
         let reports: Vec<Report> = cases.iter().map(Case::report).collect();
-        let expected: Vec<Vec<u8>> = reports.iter().enumerate().map(text).collect();
-        let whole = expected.concat();
-        let mut command = Command::new(&self.program);
-        command.args(&names).current_dir(self.folder.path());
-        let got = Program::output_without_input(&mut command, whole.len())
-            .map_err(|problem| format!("call {}: {problem}", self.calls))?;
-        let agreed = got == whole;
+        let texts: Vec<Vec<u8>> = reports.iter().enumerate().map(text).collect();
+        let expected = texts.concat();
+        let got = self.run(&cases, expected.len())?;
         for outcome in outcome::of_call(&reports).into_iter().chain(remark) {
-            self.tally.add(outcome, agreed);
+            self.tally.add(outcome, got == expected);
         }
         let got = by_number(&got);
         for (number, case) in cases.iter().enumerate() {
             let got = got.get(number.to_string().as_bytes());
-            let agreed = got == Some(&expected[number]);
+            let agreed = got == Some(&texts[number]);
             self.judge(number, case, &reports[number], agreed);
             if !agreed {
-                self.print_difference(number, &expected[number], got);
+                self.print_difference(number, &texts[number], got);
             }
         }
         self.calls += 1;
-        self.remove(&cases, &names)
+        Ok(())
+    }
+
+    /// What the program under test prints.
+    fn run(&self, cases: &[Case], most: usize) -> Result<Vec<u8>, String> {
+        let names = self.names(cases)?;
+        let mut command = Command::new(&self.program);
+        command.args(&names).current_dir(self.folder.path());
+        let got = Program::output_without_input(&mut command, most)
+            .map_err(|problem| format!("call {}: {problem}", self.calls))?;
+        self.remove(cases, &names)?;
+        Ok(got)
     }
 
     /// The arguments. A trace without a name is written to a file.
@@ -130,21 +136,17 @@ impl Comparison {
             return;
         }
         println!("difference in call {}, file {number}", self.calls);
-        let got = got.map_or(&[][..], |got| got);
         let lines = |text| String::from_utf8_lossy(text).into_owned();
-        let (expected, got) = (lines(expected), lines(got));
-        let mut ours = expected.lines();
-        let mut theirs = got.lines();
-        loop {
+        let (ours, theirs) = (lines(expected), lines(got.map_or(&[], |got| got)));
+        let (mut ours, mut theirs) = (ours.split_inclusive('\n'), theirs.split_inclusive('\n'));
+        let (ours, theirs) = loop {
             match (ours.next(), theirs.next()) {
-                (None, None) => return println!("  in the ends of their lines"),
-                (ours, theirs) if ours == theirs => {}
-                (ours, theirs) => {
-                    println!("  second program: {}", ours.unwrap_or("no line"));
-                    return println!("  program:        {}", theirs.unwrap_or("no line"));
-                }
+                (Some(ours), Some(theirs)) if ours == theirs => {}
+                different => break different,
             }
-        }
+        };
+        println!("  second program: {:?}", ours.unwrap_or("no more lines"));
+        println!("  program:        {:?}", theirs.unwrap_or("no more lines"));
     }
 
     /// Prints the counts; true where every outcome passed.

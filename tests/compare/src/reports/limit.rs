@@ -29,10 +29,14 @@ const RECORDS_BEHIND: usize = 100;
 
 pub fn put(comparison: &mut Comparison, random: &mut Random) -> Result<(), String> {
     let calls = [
-        vec![at_limit_above(random), small(random)],
-        vec![at_limit_below(random)],
-        vec![small(random), past_above(random), small(random)],
-        vec![past_below(random), small(random)],
+        vec![above(random, LEFT, AT_LIMIT_ABOVE), small(random)],
+        vec![below(random, LEFT, AT_LIMIT_BELOW)],
+        vec![
+            small(random),
+            above(random, LEFT + 1, PAST_ABOVE),
+            small(random),
+        ],
+        vec![below(random, LEFT + 1, PAST_BELOW), small(random)],
         vec![small(random), past_and_back(random), empty(), small(random)],
     ];
     for cases in calls {
@@ -49,52 +53,29 @@ pub fn see_saw(random: &mut Random, leaves: u32, cycles: usize) -> Vec<u8> {
     see_saw.trace
 }
 
-/// Exactly 4,294,967,295 above zero.
-fn at_limit_above(random: &mut Random) -> Case {
-    let mut see_saw = SeeSaw::begin(random);
-    see_saw.swing(CYCLES);
-    see_saw.keep(LEFT);
+/// All cycles within the limit, and a last rise of so many leaf words.
+fn above(random: &mut Random, leaves: u32, remark: &str) -> Case {
+    let mut see_saw = SeeSaw::near_the_limit(random, leaves);
     see_saw.rise(see_saw.riser);
-    see_saw.case(AT_LIMIT_ABOVE)
+    see_saw.case(remark)
 }
 
-/// Exactly 4,294,967,295 below zero.
-fn at_limit_below(random: &mut Random) -> Case {
-    let mut see_saw = SeeSaw::begin(random);
-    see_saw.swing(CYCLES);
-    see_saw.keep(LEFT);
+/// All cycles within the limit, and a last fall of so many leaf words. They rise under a third
+/// identification, so that the first stays as it is.
+fn below(random: &mut Random, leaves: u32, remark: &str) -> Case {
+    let mut see_saw = SeeSaw::near_the_limit(random, leaves);
     see_saw.rise(see_saw.third);
     see_saw.fall(see_saw.faller);
-    see_saw.case(AT_LIMIT_BELOW)
-}
-
-fn past_above(random: &mut Random) -> Case {
-    let mut see_saw = SeeSaw::begin(random);
-    see_saw.swing(CYCLES);
-    see_saw.keep(LEFT + 1);
-    see_saw.rise(see_saw.riser);
-    see_saw.case(PAST_ABOVE)
-}
-
-fn past_below(random: &mut Random) -> Case {
-    let mut see_saw = SeeSaw::begin(random);
-    see_saw.swing(CYCLES);
-    see_saw.keep(LEFT + 1);
-    see_saw.rise(see_saw.third);
-    see_saw.fall(see_saw.faller);
-    see_saw.case(PAST_BELOW)
+    see_saw.case(remark)
 }
 
 /// One past the limit, at once back within it, and on with other records.
 fn past_and_back(random: &mut Random) -> Case {
-    let mut see_saw = SeeSaw::begin(random);
-    see_saw.swing(CYCLES);
-    see_saw.keep(LEFT + 1);
+    let mut see_saw = SeeSaw::near_the_limit(random, LEFT + 1);
     see_saw.rise(see_saw.riser);
     see_saw.fall(see_saw.riser);
-    see_saw
-        .trace
-        .extend(script::trace(random, RECORDS_BEHIND, 3));
+    let others = script::trace(random, RECORDS_BEHIND, 3);
+    see_saw.trace.extend(others);
     see_saw.case(PAST_AND_BACK)
 }
 
@@ -131,6 +112,14 @@ impl SeeSaw {
         for index in FIRST_LEAF..FIRST_LEAF + LEAVES {
             see_saw.store(index, PRESENT);
         }
+        see_saw
+    }
+
+    /// After all cycles that are within the limit, so many leaf words are kept.
+    fn near_the_limit(random: &mut Random, leaves: u32) -> SeeSaw {
+        let mut see_saw = SeeSaw::begin(random);
+        see_saw.swing(CYCLES);
+        see_saw.keep(leaves);
         see_saw
     }
 

@@ -7,25 +7,22 @@ use crate::protocol::Call;
 use crate::random::Random;
 use crate::traces::record::Record;
 use crate::traces::script::{malformed, refused};
-use reference::trace::{Unit, RECORD_BYTES};
+use crate::traces::written::Written;
 use reference::*;
 
 /// A trace of so many records, and a last piece of so many bytes.
 pub fn trace(random: &mut Random, records: usize, piece: usize) -> Vec<u8> {
     let mut script = Script::begin(random);
     for _ in 0..records {
-        let record = script.next_record(random).to_bytes();
-        script.unit.step(record);
-        script.bytes.extend(record);
+        let record = script.next_record(random);
+        script.written.add(record);
     }
-    let last = script.next_record(random).to_bytes();
-    script.bytes.extend(&last[..piece]);
-    script.bytes
+    let last = script.next_record(random);
+    script.written.end(records, last, piece)
 }
 
 struct Script {
-    bytes: Vec<u8>,
-    unit: Unit,
+    written: Written,
     /// Few, so that a store to one of them loses a directory, or all.
     roots: Vec<usize>,
     /// Directories and tables, few enough to be named by several words.
@@ -46,8 +43,7 @@ impl Script {
             );
         }
         Script {
-            bytes: Vec::with_capacity(RECORD_BYTES),
-            unit: Unit::start(),
+            written: Written::begin(),
             roots: match random.one_in(3) {
                 true => (0..=GLOBAL_ROOT).collect(),
                 false => vec![random.below(63), random.below(63), GLOBAL_ROOT],
@@ -60,7 +56,7 @@ impl Script {
 
     /// Half of the records are stores; each fifth sets CONTEXT.
     fn next_record(&mut self, random: &mut Random) -> Record {
-        if self.unit.registers.enable == 0 && random.one_in(8) {
+        if self.written.unit.registers.enable == 0 && random.one_in(8) {
             return setting(2, 1);
         }
         match random.below(40) {
@@ -89,7 +85,7 @@ impl Script {
 
     fn store(&mut self, random: &mut Random) -> Record {
         let place = self.place(random);
-        let words = &self.unit.words;
+        let words = &self.written.unit.words;
         let value = match random.below(6) {
             0 => words[place.index] ^ PRESENT,
             1 if place.level != Level::Root => self.own_table(place.index),

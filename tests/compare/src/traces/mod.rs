@@ -3,6 +3,7 @@
 mod outcome;
 pub mod record;
 pub mod script;
+pub mod written;
 
 use crate::program::Program;
 use crate::random::Random;

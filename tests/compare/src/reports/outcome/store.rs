@@ -112,59 +112,67 @@ impl Before {
             outcomes.push(under(context, ordering));
         }
         outcomes.extend(self.turn(unit));
-        outcomes.extend(self.noted(unit, leaves, ordering).map(String::from));
+        let noted = [
+            &self.of_slots(unit)[..],
+            &self.of_names(unit, leaves),
+            &self.of_leaf(unit, leaves, ordering),
+        ]
+        .concat();
+        let noted = noted.into_iter().filter(|&(holds, _)| holds);
+        outcomes.extend(noted.map(|(_, outcome)| outcome.to_string()));
         outcomes
     }
 
-    fn noted(
+    fn of_slots(&self, unit: &Unit) -> [(bool, &'static str); 3] {
+        let gone = self.emptied_ids(unit);
+        let context = unit.registers.context;
+        [
+            (gone.iter().any(|&id| id != context), OTHER_ID),
+            (gone.iter().any(|&id| id != gone[0]), SEVERAL_IDS),
+            (self.word == unit.words[self.index], SAME_VALUE),
+        ]
+    }
+
+    /// What the word named is still named by another, or nobody asked it.
+    fn of_names(&self, unit: &Unit, leaves: &ByCounts) -> [(bool, &'static str); 3] {
+        let (old, new) = (self.word, unit.words[self.index]);
+        let left = old != new && led(self.target, old, unit) == Led::On;
+        let number = (old ^ PRESENT) as usize;
+        let is_root = matches!(self.target, Target::Root | Target::GlobalRoot);
+        let is_directory = matches!(self.target, Target::Directory | Target::DirectoryAndLeaf);
+        let is_behind = self.index == ROOTS && led(Target::Root, new, unit) == Led::On;
+        [
+            (left && is_root && leaves.roots_of(number) > 0, STILL_ROOTED),
+            (
+                left && is_directory && leaves.words_of(number) > 0,
+                STILL_NAMED,
+            ),
+            (is_behind, BEHIND_ROOTS),
+        ]
+    }
+
+    fn of_leaf(
         &self,
         unit: &Unit,
         leaves: &ByCounts,
         ordering: Ordering,
-    ) -> impl Iterator<Item = &'static str> {
-        let context = unit.registers.context;
-        let (old, new) = (self.word, unit.words[self.index]);
-        let changes = ordering != Ordering::Equal;
-        let is_root = matches!(self.target, Target::Root | Target::GlobalRoot);
-        let is_directory = matches!(self.target, Target::Directory | Target::DirectoryAndLeaf);
-        let is_leaf = matches!(self.target, Target::Leaf | Target::DirectoryAndLeaf);
-        let still = |names: fn(&ByCounts, usize) -> u32| {
-            old != new
-                && led(self.target, old, unit) == Led::On
-                && names(leaves, (old ^ PRESENT) as usize) > 0
-        };
-        let gone = self.emptied_ids(unit);
-        let after = target(&unit.words, self.index);
-        let is_leaf_after = matches!(after, Target::Leaf | Target::DirectoryAndLeaf);
-        let present = new >= PRESENT;
-        let table = self.index / TABLE_WORDS;
+    ) -> [(bool, &'static str); 5] {
+        let context = unit.registers.context as usize;
+        let new = unit.words[self.index];
+        let is_present = new >= PRESENT;
+        let (rises, changes) = (ordering == Ordering::Greater, ordering != Ordering::Equal);
+        let has_no_root = unit.words[context] < PRESENT && self.index != context;
+        let is_leaf = self.target == Target::Leaf;
+        let is_shared = is_leaf && leaves.words_of(self.index / TABLE_WORDS) > 1;
+        let was_one = is_any_leaf(self.target);
+        let is_one = is_any_leaf(target(&unit.words, self.index));
         [
-            (gone.iter().any(|&id| id != context), OTHER_ID),
-            (gone.iter().any(|&id| id != gone[0]), SEVERAL_IDS),
-            (old == new, SAME_VALUE),
-            (
-                self.target == Target::Leaf && new >> 30 == 2 && ordering == Ordering::Greater,
-                INVALID_LEAF,
-            ),
-            (
-                changes && unit.words[context as usize] < PRESENT && self.index != context as usize,
-                OTHER_ROOT,
-            ),
-            (is_root && still(ByCounts::roots_of), STILL_ROOTED),
-            (is_directory && still(ByCounts::words_of), STILL_NAMED),
-            (
-                self.index == ROOTS && led(Target::Root, new, unit) == Led::On,
-                BEHIND_ROOTS,
-            ),
-            (
-                self.target == Target::Leaf && changes && leaves.words_of(table) > 1,
-                LEAF_OF_MANY,
-            ),
-            (!is_leaf && is_leaf_after && present, FINDS_ITSELF),
-            (is_leaf && !is_leaf_after && present, LOSES_ITSELF),
+            (is_leaf && rises && new >> 30 == 2, INVALID_LEAF),
+            (changes && has_no_root, OTHER_ROOT),
+            (changes && is_shared, LEAF_OF_MANY),
+            (is_present && !was_one && is_one, FINDS_ITSELF),
+            (is_present && was_one && !is_one, LOSES_ITSELF),
         ]
-        .into_iter()
-        .filter_map(|(holds, outcome)| holds.then_some(outcome))
     }
 
     /// How the word led on before and how it leads on now, where walks go through it.
@@ -184,6 +192,10 @@ impl Before {
             .map(|slot| Entry::unpack(self.buffer[slot]).page_id)
             .collect()
     }
+}
+
+fn is_any_leaf(target: Target) -> bool {
+    matches!(target, Target::Leaf | Target::DirectoryAndLeaf)
 }
 
 /// Where the word leads as a root or as a directory word.
