@@ -27,7 +27,8 @@ struct Script {
     roots: Vec<usize>,
     /// Directories and tables, few enough to be named by several words.
     numbers: Numbers,
-    /// Places in a directory and in a table. In the first half of a table each is both.
+    /// Places in a directory and in a table. Half of the scripts have the directory's in the table
+    /// too: where the two overlap, the word is a directory word and a leaf.
     tops: Vec<usize>,
     lows: Vec<usize>,
 }
