@@ -1,6 +1,6 @@
 # shellcheck shell=bash disable=SC2154
 # The scripts of bin/, tried from other folders. Part of tests/text/check, whose verdict() and variables it uses.
-# bin/mmutrace is tried in a repository of its own, with an rt that builds a small program.
+# bin/mmutrace and bin/mmureport are tried in a repository of their own, with an rt that builds a small program.
 
 # From another folder, through a symbolic link to a symbolic link, with a file named from that folder.
 from_another_folder() (
@@ -32,20 +32,21 @@ done
 # fail, and to leave a program as it is, as the true one does where nothing changed but a time.
 cat >"$work/path/rt" <<'END'
 #!/bin/sh
-[ "$*" = 'check mmutrace' ] && [ -f crates.txt ] || exit 9
+case $* in 'check mmutrace' | 'check mmureport') ;; *) exit 9 ;; esac
+[ -f crates.txt ] || exit 9
 cat
 echo 'rt: talk'
 echo built >>../builds
 [ ! -e ../unchanged ] || exit 0
 sleep 0.3
 mkdir -p target/bin
-cat >target/bin/mmutrace <<'PROGRAM'
+cat >target/bin/$2 <<'PROGRAM'
 #!/bin/sh
 echo "arguments: $*"
 cat
 exit 7
 PROGRAM
-chmod +x target/bin/mmutrace
+chmod +x target/bin/$2
 [ ! -e ../fail ]
 END
 chmod +x "$work/path/rt"
@@ -122,6 +123,14 @@ together() {
     [ "$good" -eq 4 ] && [ "$(builds)" -le "$expected" ]
 }
 
+# The report program is built like the trace program, and gets its names as they are.
+report() {
+    local out status
+    out=$(cd / && PATH=$work/path:$PATH "$repository/bin/mmureport" 'a b' c 2>"$work/errors" </dev/null)
+    status=$?
+    [ "$status" -eq 7 ] && [ "$out" = 'arguments: a b c' ] && grep -qx 'rt: talk' "$work/errors"
+}
+
 verdict "bin/tracetext works from another folder" from_another_folder
 verdict "bin/tracetext passes status and messages on" passes_errors_on
 verdict "bin/mmutrace builds at the first call" first_call
@@ -131,3 +140,4 @@ verdict "bin/mmutrace asks once about a source that is the same" same_source
 verdict "bin/mmutrace does not run what failed to build" failed_build
 verdict "bin/mmutrace says where rt is missing" without_rt
 verdict "bin/mmutrace called four times at once builds once" together
+verdict "bin/mmureport builds at the first call" report

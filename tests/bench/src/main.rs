@@ -1,9 +1,10 @@
 //! Measures the proved code against the second program, tests/reference, on the same inputs.
 //!
-//! Use: tests/bench/run [calls] [words] [traces]
+//! Use: tests/bench/run [calls] [words] [traces] [reports]
 //!   calls    the C calls over bytes, in this process
 //!   words    the calls over words, by the programs `pace`
 //!   traces   whole traces, by the trace programs
+//!   reports  whole traces, by the report programs
 
 mod calls;
 mod clock;
@@ -19,10 +20,11 @@ use std::process::ExitCode;
 
 type Part = (&'static str, fn() -> Result<(), String>);
 
-const PARTS: [Part; 3] = [
+const PARTS: [Part; 4] = [
     ("calls", calls::measure),
     ("words", words::measure),
     ("traces", traces::measure),
+    ("reports", traces::measure_reports),
 ];
 
 fn measure() -> Result<(), String> {
@@ -31,7 +33,9 @@ fn measure() -> Result<(), String> {
         .iter()
         .find(|word| PARTS.iter().all(|(name, _)| name != word))
     {
-        return Err(format!("{word} is none of calls, words and traces"));
+        return Err(format!(
+            "{word} is none of calls, words, traces and reports"
+        ));
     }
     println!("machine: {}", machine::line());
     println!("Rattle's side: {}", programs::proved().display());

@@ -2,7 +2,7 @@
 
 use crate::clock;
 use std::fs::File;
-use std::io::{Read, Seek, Write};
+use std::io::{Read, Write};
 use std::path::Path;
 use std::process::{Child, Command, Stdio};
 use std::time::Duration;
@@ -10,7 +10,7 @@ use std::time::Duration;
 /// What the program writes, and its processor time; the input must fit into a pipe.
 pub fn run_on_bytes(program: &Path, input: &[u8]) -> Result<(Vec<u8>, Duration), String> {
     let before = clock::of_ended_children();
-    let mut child = start(program, Stdio::piped(), Stdio::piped())?;
+    let mut child = start(program, None, Stdio::piped(), Stdio::piped())?;
     let mut pipe = child.stdin.take().expect("the input is a pipe");
     pipe.write_all(input)
         .map_err(|error| told(program, error))?;
@@ -19,31 +19,47 @@ pub fn run_on_bytes(program: &Path, input: &[u8]) -> Result<(Vec<u8>, Duration),
     Ok((output, clock::of_ended_children() - before))
 }
 
+/// How a program is told of the file that it reads.
+#[derive(Clone, Copy)]
+pub enum Told {
+    /// The file is its standard input.
+    Input,
+    /// The file's name is its argument.
+    Argument,
+}
+
 /// What the program writes that reads the file.
-pub fn run_on_file(program: &Path, file: &File) -> Result<Vec<u8>, String> {
-    let input = from_the_beginning(file).map_err(|error| told(program, error))?;
-    output_of(program, start(program, input.into(), Stdio::piped())?)
+pub fn run_on_file(program: &Path, file: &Path, by: Told) -> Result<Vec<u8>, String> {
+    output_of(program, start_on_file(program, file, by, Stdio::piped())?)
 }
 
 /// The processor time of the program that reads the file and writes to nobody.
-pub fn time_on_file(program: &Path, file: &File) -> Result<Duration, String> {
-    let input = from_the_beginning(file).map_err(|error| told(program, error))?;
+pub fn time_on_file(program: &Path, file: &Path, by: Told) -> Result<Duration, String> {
     let before = clock::of_ended_children();
-    let child = start(program, input.into(), Stdio::null())?;
+    let child = start_on_file(program, file, by, Stdio::null())?;
     ends_well(program, child)?;
     Ok(clock::of_ended_children() - before)
 }
 
-fn start(program: &Path, input: Stdio, output: Stdio) -> Result<Child, String> {
-    let mut command = Command::new(program);
-    command.stdin(input).stdout(output);
-    command.spawn().map_err(|error| told(program, error))
+fn start_on_file(program: &Path, file: &Path, by: Told, output: Stdio) -> Result<Child, String> {
+    match by {
+        Told::Input => {
+            let input = File::open(file).map_err(|error| told(file, error))?;
+            start(program, None, input.into(), output)
+        }
+        Told::Argument => start(program, Some(file), Stdio::null(), output),
+    }
 }
 
-fn from_the_beginning(file: &File) -> std::io::Result<File> {
-    let mut file = file.try_clone()?;
-    file.rewind()?;
-    Ok(file)
+fn start(
+    program: &Path,
+    argument: Option<&Path>,
+    input: Stdio,
+    output: Stdio,
+) -> Result<Child, String> {
+    let mut command = Command::new(program);
+    command.args(argument).stdin(input).stdout(output);
+    command.spawn().map_err(|error| told(program, error))
 }
 
 fn output_of(program: &Path, mut child: Child) -> Result<Vec<u8>, String> {
@@ -63,6 +79,6 @@ fn ends_well(program: &Path, mut child: Child) -> Result<(), String> {
     }
 }
 
-fn told(program: &Path, what: impl std::fmt::Display) -> String {
-    format!("{}: {what}", program.display())
+fn told(path: &Path, what: impl std::fmt::Display) -> String {
+    format!("{}: {what}", path.display())
 }

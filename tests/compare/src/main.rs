@@ -3,6 +3,7 @@
 //! Use:
 //!   compare calls PROBE [SEED] [CASES]        the single calls, by the program `probe`
 //!   compare traces MMUTRACE [SEED] [TRACES]   whole traces, by the trace program
+//!   compare reports MMUREPORT [SEED] [FILES]  reports over trace files, by the report program
 //!   compare host HOST [SEED] [CASES]          the C calls, by tests/host
 //!
 //! Prints how often each outcome happened. An outcome fails that never happened or in which the
@@ -20,6 +21,7 @@ mod program;
 mod protocol;
 mod put;
 mod random;
+mod reports;
 mod tally;
 mod traces;
 mod witness;
@@ -27,7 +29,7 @@ mod witness;
 use std::process::ExitCode;
 
 const SEED: u64 = 100;
-const USE: &str = "use: compare calls|traces|host PROGRAM [SEED] [NUMBER]";
+const USE: &str = "use: compare calls|traces|reports|host PROGRAM [SEED] [NUMBER]";
 
 fn compare() -> Result<bool, String> {
     let words: Vec<String> = std::env::args().skip(1).collect();
@@ -47,6 +49,7 @@ fn compare() -> Result<bool, String> {
     match &words[0][..] {
         "calls" => calls::compare(program, seed, many(calls::CASES)?),
         "host" => host::compare(program, seed, many(host::CASES)?),
+        "reports" => reports::compare(program, seed, many(reports::FILES)?),
         "traces" => traces::compare(program, seed, many(traces::TRACES)?),
         _ => Err(USE.to_string()),
     }

@@ -28,13 +28,20 @@ pub struct Program {
 }
 
 impl Program {
-    /// Starts the program with one thread that writes to it and one that reads from it.
     pub fn start(path: &str) -> Result<Program, String> {
-        let mut child = Command::new(path)
+        Program::start_by(&mut Command::new(path))
+    }
+
+    /// Starts the program with one thread that writes to it and one that reads from it.
+    fn start_by(command: &mut Command) -> Result<Program, String> {
+        let mut child = command
             .stdin(Stdio::piped())
             .stdout(Stdio::piped())
             .spawn()
-            .map_err(|error| format!("{path} does not start: {error}"))?;
+            .map_err(|error| {
+                let program = command.get_program().display();
+                format!("{program} does not start: {error}")
+            })?;
         let input = child.stdin.take().expect("the input is a pipe");
         let output = child.stdout.take().expect("the output is a pipe");
         let (requests, to_write) = channel();
@@ -101,9 +108,8 @@ impl Program {
         Err("the output goes on after the last answer".to_string())
     }
 
-    /// All that the program writes which is given these bytes and nothing more, and ends well. The
-    /// bytes come in pieces of so many, where they are fewer than all with a pause after each. More
-    /// than the most that is of interest is not waited for.
+    /// All that the program writes which is given these bytes and nothing more. The bytes come in
+    /// pieces of so many, where they are fewer than all with a pause after each.
     pub fn output_of(
         path: &str,
         input: &[u8],
@@ -119,13 +125,26 @@ impl Program {
             }
         }
         program.end_input();
+        program.whole_output(most)
+    }
+
+    /// All that the program writes which the command starts, given no input.
+    pub fn output_without_input(command: &mut Command, most: usize) -> Result<Vec<u8>, String> {
+        let mut program = Program::start_by(command)?;
+        program.end_input();
+        program.whole_output(most)
+    }
+
+    /// The output to its end, after which the program ends well. More than the most that is of
+    /// interest is not waited for.
+    fn whole_output(&mut self, most: usize) -> Result<Vec<u8>, String> {
         let mut output = Vec::new();
         while output.len() <= most {
-            match program.next_piece() {
+            match self.next_piece() {
                 Ok(bytes) => output.extend(bytes),
                 Err(RecvTimeoutError::Timeout) => return Err(silence()),
                 Err(RecvTimeoutError::Disconnected) => {
-                    program.wait()?;
+                    self.wait()?;
                     break;
                 }
             }

@@ -1,6 +1,7 @@
-//! The memory unit of the ETRAX 100LX as document 01 tells it.
+//! The memory unit of the ETRAX 100LX as document 01 tells it, and the report over traces that a
+//! request of document 02 asks for.
 //!
-//! Each module is one heading of that paper, and quotes its words where a
+//! Each module is one heading of the paper, and quotes its words where a
 //! sentence decides.
 
 mod account;
@@ -17,6 +18,7 @@ mod register_read;
 mod register_write;
 mod registers;
 mod reply;
+pub mod report;
 mod run;
 mod search;
 mod served;

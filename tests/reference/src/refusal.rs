@@ -16,6 +16,7 @@ pub enum Refusal {
     WordIndex,
     RegisterNumber,
     Record,
+    Total,
 }
 
 impl Refusal {
@@ -29,6 +30,7 @@ impl Refusal {
             Refusal::WordIndex => 6,
             Refusal::RegisterNumber => 7,
             Refusal::Record => 8,
+            Refusal::Total => 9,
         }
     }
 }

@@ -1,14 +1,14 @@
-//! Whole traces, read from a file by the trace programs.
+//! Whole traces, read from a file by the trace programs and by the report programs.
 
 mod record;
 mod trace;
 
-use crate::process::{run_on_file, time_on_file};
+use crate::process::{run_on_file, time_on_file, Told};
 use crate::programs;
 use crate::rounds::{medians, Both};
 use crate::table;
-use std::fs::{create_dir_all, File};
-use std::path::Path;
+use std::fs::create_dir_all;
+use std::path::{Path, PathBuf};
 
 const ROUNDS: usize = 21;
 
@@ -22,15 +22,38 @@ const TRACES: [Trace; 3] = [
     ("misses", trace::misses),
 ];
 
+const REPORTS: [Trace; 3] = [
+    ("mixed", trace::mixed),
+    ("stores", trace::stores),
+    ("root of 15 tables", trace::root_of_all_tables),
+];
+
+/// The trace programs.
 pub fn measure() -> Result<(), String> {
-    let Some(programs) = programs::pair("mmutrace", "trace") else {
+    let sides = programs::pair("mmutrace", "trace");
+    measure_programs("trace", sides, Told::Input, TRACES)
+}
+
+/// The report programs.
+pub fn measure_reports() -> Result<(), String> {
+    let sides = programs::pair("mmureport", "report");
+    measure_programs("report", sides, Told::Argument, REPORTS)
+}
+
+fn measure_programs(
+    name: &str,
+    sides: Option<Both<PathBuf>>,
+    by: Told,
+    traces: [Trace; 3],
+) -> Result<(), String> {
+    let Some(programs) = &sides else {
         return Ok(());
     };
     let programs = Both {
         rattle: programs.rattle.as_path(),
         second: programs.second.as_path(),
     };
-    let title = format!("The trace programs, records a second, {ROUNDS} rounds");
+    let title = format!("The {name} programs, records a second, {ROUNDS} rounds");
     let columns = [
         "trace",
         "records",
@@ -39,20 +62,20 @@ pub fn measure() -> Result<(), String> {
         "ratio of times",
     ];
     table::head(&title, &columns);
-    for (name, trace) in TRACES {
-        measure_trace(programs, name, &trace())?;
+    for (name, trace) in traces {
+        measure_trace(programs, by, name, &trace())?;
     }
     Ok(())
 }
 
-fn measure_trace(programs: Both<&Path>, name: &str, trace: &[u8]) -> Result<(), String> {
+fn measure_trace(programs: Both<&Path>, by: Told, name: &str, trace: &[u8]) -> Result<(), String> {
     let file = file_of(name, trace).map_err(|error| format!("{FOLDER}/{name}: {error}"))?;
-    let lines = programs.map(|program| run_on_file(program, &file));
+    let lines = programs.map(|program| run_on_file(program, &file, by));
     if lines.rattle? != lines.second? {
         return Err(format!("{name}: the lines differ of {FOLDER}/{name}"));
     }
     let medians = medians(ROUNDS, programs, |program| {
-        Ok(time_on_file(program, &file)?.as_secs_f64())
+        Ok(time_on_file(program, &file, by)?.as_secs_f64())
     })?;
     let records = trace.len() / record::BYTES;
     let pace = medians.seconds.map(|seconds| records as f64 / seconds);
@@ -60,10 +83,10 @@ fn measure_trace(programs: Both<&Path>, name: &str, trace: &[u8]) -> Result<(), 
     Ok(())
 }
 
-/// A file that holds the trace, open for reading.
-fn file_of(name: &str, trace: &[u8]) -> std::io::Result<File> {
+/// A file that holds the trace.
+fn file_of(name: &str, trace: &[u8]) -> std::io::Result<PathBuf> {
     create_dir_all(FOLDER)?;
     let path = Path::new(FOLDER).join(name);
     std::fs::write(&path, trace)?;
-    File::open(path)
+    Ok(path)
 }

@@ -10,11 +10,17 @@ const FIRST_LEAF: u32 = 1024;
 const LEAF: u32 = 0xD000_0100;
 const PAGES: u32 = 80;
 
+/// All tables that 16,384 words hold, and their words.
+const TABLES: u32 = 15;
+const LEAVES: u32 = 1024 * TABLES;
+
 /// Pages that the preparation loads, one into each slot.
 const HELD: u32 = 64;
 
+const PRESENT: u32 = 0x8000_0000;
+
 /// A present root or directory word that names number 1.
-const NAMES_FIRST: u32 = 0x8000_0001;
+const NAMES_FIRST: u32 = PRESENT | 1;
 
 /// The held pages in turn: every access hits.
 pub fn hits() -> Vec<u8> {
@@ -48,8 +54,40 @@ pub fn mixed() -> Vec<u8> {
     })
 }
 
-fn with_preparation(mut record: impl FnMut(u32) -> u64) -> Vec<u8> {
-    let mut records = preparation();
+/// Of 64 records 52 are stores to leaves of all fifteen tables, 4 to words of a directory that names
+/// them, 2 to roots, 2 settings of CONTEXT and 4 accesses, so that the buffer has entries to judge.
+pub fn stores() -> Vec<u8> {
+    let mut random = Random(200);
+    with_preparation(|_| {
+        let page = random.below(HELD);
+        let present = random.below(2) << 31;
+        match random.below(64) {
+            0..=51 => store(FIRST_LEAF + random.below(LEAVES), present | page),
+            52..=55 => store(512 + random.below(64), present | (1 + random.below(TABLES))),
+            56 | 57 => store(random.below(64), present | 1),
+            58 | 59 => context(PROGRAMS[random.below(2) as usize]),
+            _ => user_read(page, random.below(4)),
+        }
+    })
+}
+
+/// A root that comes and goes; its directory names all fifteen tables, whose words are all present.
+pub fn root_of_all_tables() -> Vec<u8> {
+    let mut records: Vec<u64> = (1..=TABLES)
+        .map(|table| store(512 + table, PRESENT | table))
+        .collect();
+    records.extend((0..LEAVES).map(|leaf| store(FIRST_LEAF + leaf, PRESENT | leaf)));
+    filled_up(records, |i| {
+        let word = if i % 2 == 0 { NAMES_FIRST } else { 0 };
+        store(PROGRAMS[0], word)
+    })
+}
+
+fn with_preparation(record: impl FnMut(u32) -> u64) -> Vec<u8> {
+    filled_up(preparation(), record)
+}
+
+fn filled_up(mut records: Vec<u64>, mut record: impl FnMut(u32) -> u64) -> Vec<u8> {
     records.extend((0..(RECORDS - records.len()) as u32).map(&mut record));
     records.into_iter().flat_map(u64::to_be_bytes).collect()
 }

@@ -1,6 +1,6 @@
 //! The cases that are put to both programs.
 
-mod forest;
+pub mod forest;
 mod raw;
 mod raw_edges;
 mod read;
@@ -16,7 +16,7 @@ pub mod steps;
 mod store;
 mod tables;
 mod walk;
-mod words;
+pub mod words;
 pub mod world;
 mod write;
 

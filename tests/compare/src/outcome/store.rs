@@ -33,7 +33,7 @@ pub enum Target {
     Unused,
 }
 
-const TARGETS: [Target; 6] = [
+pub const TARGETS: [Target; 6] = [
     Target::Root,
     Target::GlobalRoot,
     Target::Directory,
@@ -265,7 +265,7 @@ fn stretch(words: &[u32], word: u32, length: usize) -> Option<usize> {
     good.then_some(number)
 }
 
-fn name(target: Target) -> &'static str {
+pub fn name(target: Target) -> &'static str {
     match target {
         Target::Root => "a root",
         Target::GlobalRoot => "the global root",

@@ -1,8 +1,9 @@
 //! Whole traces, each run by a process of its own and compared byte for byte.
 
 mod outcome;
-mod record;
-mod script;
+pub mod record;
+pub mod script;
+pub mod written;
 
 use crate::program::Program;
 use crate::random::Random;

@@ -1,11 +1,12 @@
 //! Traces of chosen lengths, whose records go by what the unit has come to.
 
 use super::record::{Record, ACCESS, DRAW, SETTING_KINDS, STORE, USER, WRITE};
+use super::written::Written;
 use crate::cases::steps::Steps;
 use crate::cases::world::{size, World};
 use crate::protocol::Call;
 use crate::random::Random;
-use reference::trace::{Unit, RECORD_BYTES, TABLE_WORDS};
+use reference::trace::TABLE_WORDS;
 use reference::SETTINGS;
 
 /// How many records a world serves, about.
@@ -14,19 +15,15 @@ const RECORDS_FOR_A_WORLD: usize = 1500;
 /// A trace of so many records, and a last piece of so many bytes.
 pub fn trace(random: &mut Random, records: usize, piece: usize) -> Vec<u8> {
     let mut script = Script::begin(random, records);
-    let length = RECORD_BYTES * records;
-    while script.bytes.len() < length {
+    while script.written.records() < records {
         script.step(random);
     }
-    script.bytes.truncate(length);
-    let last = script.next_record(random).to_bytes();
-    script.bytes.extend(&last[..piece]);
-    script.bytes
+    let last = script.next_record(random);
+    script.written.end(records, last, piece)
 }
 
 struct Script {
-    bytes: Vec<u8>,
-    unit: Unit,
+    written: Written,
     steps: Steps,
 }
 
@@ -39,8 +36,7 @@ impl Script {
         };
         let world = world(random, size);
         let mut script = Script {
-            bytes: Vec::new(),
-            unit: Unit::start(),
+            written: Written::begin(),
             steps: Steps::new(random, world),
         };
         if records > 40 || random.one_in(2) {
@@ -57,13 +53,7 @@ impl Script {
             self.plant(random);
         }
         let record = self.next_record(random);
-        self.add(record);
-    }
-
-    fn add(&mut self, record: Record) {
-        let bytes = record.to_bytes();
-        self.unit.step(bytes);
-        self.bytes.extend(bytes);
+        self.written.add(record);
     }
 
     /// Stores the words of the world, in either order, then mostly enables.
@@ -76,10 +66,10 @@ impl Script {
         }
         for n in planted {
             let (index, value) = (n as u32, words[n]);
-            self.add(Record::of(Call::Store { index, value }));
+            self.written.add(Record::of(Call::Store { index, value }));
         }
         if !random.one_in(4) {
-            self.add(Record::of(Call::Setting {
+            self.written.add(Record::of(Call::Setting {
                 number: 2,
                 value: 1,
             }));
@@ -107,9 +97,9 @@ impl Script {
     }
 
     fn accepted(&mut self, random: &mut Random) -> Record {
-        let registers = self.unit.registers.to_words();
+        let registers = self.written.unit.registers.to_words();
         let settings = std::array::from_fn(|n| registers[n]);
-        let words = &self.unit.words;
+        let words = &self.written.unit.words;
         Record::of(self.steps.next_call(random, settings, words))
     }
 }
@@ -121,7 +111,7 @@ fn world(random: &mut Random, size: (usize, usize)) -> World {
 }
 
 /// A setting with a value too large, or where it has none a store past the table memory.
-fn refused(random: &mut Random) -> Record {
+pub fn refused(random: &mut Random) -> Record {
     let number = random.below(SETTINGS);
     let value = match number {
         0 => random.pick(&[0x1_0000, 0x1_0000, 0x1_0001, 0x8000_0000, u32::MAX]),
@@ -148,7 +138,7 @@ fn refused(random: &mut Random) -> Record {
 }
 
 /// The record with one thing wrong, or with several.
-fn malformed(random: &mut Random, record: Record) -> Record {
+pub fn malformed(random: &mut Random, record: Record) -> Record {
     let any_kind = random.below(8) as u64;
     let kind = random.pick(&[record.kind, any_kind]);
     let record = Record { kind, ..record };
