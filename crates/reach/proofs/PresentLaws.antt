@@ -123,6 +123,9 @@ module _ (words links presents : List ℕ) (fits : tablesFit words ≡ true) (in
     rw (index .presents-are, presents-length words) l,
   )
 
+  pub presents-le : (t : ℕ) → t < tableCount words → getD presents t 0 ≤ 1024
+  presents-le t l = rw (index .presents-are, presents-at words t l) (count-le (λ k. present (getD words (1024 * t + k) 0)) 1024)
+
   in-table : (t k : ℕ) → k < 1024 → isLeafWord words (1024 * t + k) ≡ present (getD words (1024 * t + k) 0) && tableReached words t
   in-table t k l =
       let e : (1024 * t + k) / 1024 ≡ t = omega arith in

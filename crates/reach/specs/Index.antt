@@ -1,4 +1,5 @@
--- An index of the tables, kept beside them: for each table, how many words lead on to it and how many of its words are present.
+-- An index of the tables, kept beside them: for each table, how many words of reached directories lead on to it, and
+-- how many of its own words are present.
 use Prim.Native.Nat.{ℕ, zero, suc, _+_, _-_, _*_, _/_, _<_}
 use mathlib.Core.Path.{_≡_}
 use mathlib.Core.Bool.{Bool, true, false, cond, not, _&&_, _||_}
@@ -15,7 +16,7 @@ use Rattle.reach.specs.Reach.{leadsTo, directoryReached, linksTo}
 unfoldable pub tableCount : (words : List ℕ) → ℕ
 tableCount words = length words / 1024
 
--- for each table, how many of the words that pass the test p lead on to it
+-- for each table, how many of the words whose index passes the test p lead on to it
 unfoldable pub linksFrom : (p : ℕ → Bool) (words : List ℕ) → List ℕ
 linksFrom p words = tabulate (λ t. count (λ j. p j && linksTo words j t) (length words)) 0 (tableCount words)
 

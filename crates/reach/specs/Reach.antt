@@ -16,10 +16,10 @@ leadsTo length levels w n = leadsOn length levels w && eqb (number w) n
 unfoldable pub directoryReached : (words : List ℕ) (d : ℕ) → Bool
 directoryReached words d = any (λ root. leadsTo (length words) 1 (getD words root 0) d) 64
 
--- The word at index j leads on to table t. Directory d is words 512d to 512d+511, so index j stands in directory j div 512.
+-- the word at index j, taken for a directory word, leads on to table t
 unfoldable pub linksTo : (words : List ℕ) (j t : ℕ) → Bool
 linksTo words j t = leadsTo (length words) 0 (getD words j 0) t
 
--- some word of a reached directory leads on to table t
+-- Some word of a reached directory leads on to table t. Directory d is words 512d to 512d+511, so index j stands in directory j div 512.
 unfoldable pub tableReached : (words : List ℕ) (t : ℕ) → Bool
 tableReached words t = any (λ j. directoryReached words (j / 512) && linksTo words j t) (length words)

@@ -2,7 +2,7 @@ use Prim.Native.Nat.{_-_}
 use native.Mathlib.Omega.{arith}
 use borrow.Author.Needs.{needs}
 use Rattle.reach.specs.Index.{tableCount}
-use Rattle.reach.proofs.PresentLaws.{Counted, counted-none, counted-more, counted-skip, counted-le, counted-all, index-inside}
+use Rattle.reach.proofs.PresentLaws.{Counted, counted-none, counted-more, counted-skip, counted-le, counted-all, index-inside, presents-le}
 use Rattle.reach.proofs.leaf_count.Statement.{statement}
 use Rattle.reach.proofs.leaf_count.Tie as tie
 
@@ -24,22 +24,21 @@ mul-if1 c = search needs
 
 shared-slice-read-if1 : tie.Need-shared-slice-read-if1 Inv-loop μ-loop
 unfolding tableCount
-shared-slice-read-if1 c = index-inside _ _ _ (c .before .before .before .pre .0) (c .before .before .before .pre .1) _ (c .before .loop-test .taken) .0
+shared-slice-read-if1 c = index-inside _ _ _ (c .before .before .before .pre .0) (c .before .before .before .pre .1) (c .before .before .loop .t) (omega arith) .0
 
 mul-leaves : tie.Need-mul-leaves Inv-loop μ-loop
 mul-leaves c = search needs
 
 shared-slice-read-leaves : tie.Need-shared-slice-read-leaves Inv-loop μ-loop
 unfolding tableCount
-shared-slice-read-leaves c = index-inside _ _ _ (c .before .before .before .before .before .pre .0) (c .before .before .before .before .before .pre .1) _ (c .before .before .before .loop-test .taken) .1
+shared-slice-read-leaves c = index-inside _ _ _ (c .before .before .before .before .before .pre .0) (c .before .before .before .before .before .pre .1) (c .before .before .before .before .loop .t) (omega arith) .1
 
 add-leaves : tie.Need-add-leaves Inv-loop μ-loop
 unfolding tableCount
 add-leaves c =
     let start = c .before .before .before .before .before in
-    let turn = counted-more _ _ _ (start .pre .0) (start .pre .1) _ _ (c .before .before .before .before .loop .inv)
-    (c .before .before .before .loop-test .taken) (c .before .if1 .taken) in
-    let small = counted-le _ _ _ (start .pre .0) (start .pre .1) _ _ turn in
+    let small = counted-le _ _ _ (start .pre .0) (start .pre .1) _ _ (c .before .before .before .before .loop .inv) in
+    let few = presents-le _ _ _ (start .pre .0) (start .pre .1) (c .before .before .before .before .loop .t) (omega arith) in
     omega arith
 
 loop-less : tie.Need-loop-less Inv-loop μ-loop
@@ -50,7 +49,7 @@ unfolding tableCount
 loop-again c =
     let start = c .before .before .before .before .before in
     counted-more _ _ _ (start .pre .0) (start .pre .1) _ _ (c .before .before .before .before .loop .inv)
-    (c .before .before .before .loop-test .taken) (c .before .if1 .taken)
+    (omega arith) (c .before .if1 .taken)
 
 loop-less-2 : tie.Need-loop-less-2 Inv-loop μ-loop
 loop-less-2 c = omega arith
@@ -60,7 +59,7 @@ unfolding tableCount
 loop-again-2 c =
     let start = c .before .before .before .before in
     counted-skip _ _ _ (start .pre .0) (start .pre .1) _ _ (c .before .before .before .loop .inv)
-    (c .before .before .loop-test .taken) (c .if1 .left)
+    (omega arith) (c .if1 .left)
 
 returns : tie.Need-returns Inv-loop μ-loop
 unfolding tableCount

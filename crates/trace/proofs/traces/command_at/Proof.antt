@@ -7,7 +7,7 @@ use Rattle.trace.proofs.traces.command_at.Statement.{statement}
 use Rattle.trace.proofs.traces.command_at.Tie as tie
 
 returns : tie.Need-returns
-returns c = cut-short _ _ (c .if1 .taken)
+returns c = cut-short _ _ (omega arith)
 
 number-at-requires : tie.Need-number-at-requires
 number-at-requires c κs = search needs
