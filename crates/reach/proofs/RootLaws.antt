@@ -1,4 +1,4 @@
--- The links when a root's word comes or goes, and when a word is stored. Assumes nothing.
+-- The links when a root's word comes or goes. Assumes nothing.
 use Prim.Native.Nat.{ℕ, _+_, _*_, _/_, _≤_, _<_}
 use mathlib.Core.Path.{_≡_, refl, sym, ap, subst, _∙_}
 use mathlib.Core.Logic.{⊎-elim}

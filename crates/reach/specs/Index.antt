@@ -41,8 +41,8 @@ reachedBeside words root d = any (λ r. not (eqb r root) && leadsTo (length word
 unfoldable pub reachedWith : (words : List ℕ) (root w d : ℕ) → Bool
 reachedWith words root w d = reachedBeside words root d || leadsTo (length words) 1 w d
 
--- the links with the word w at a root, or without that root
-unfoldable pub rootLinks : (present : Bool) (words : List ℕ) (root w : ℕ) → List ℕ
+-- the links where the word w at a root is counted, and where that root is left out
+unfoldable pub rootLinks : (counted : Bool) (words : List ℕ) (root w : ℕ) → List ℕ
 rootLinks true words root w = linksFrom (λ j. reachedWith words root w (j / 512)) words
 rootLinks false words root w = linksFrom (λ j. reachedBeside words root (j / 512)) words
 
@@ -55,8 +55,8 @@ Steps true n = n < 4294967295
 Steps false n = 0 < n
 
 -- the links with that of the word w added or taken away, and that there is room for it
-unfoldable pub relinked : (up : Bool) (length w : ℕ) (links : List ℕ) → List ℕ
-relinked up length w links = cond (leadsOn length 0 w) (set links (number w) (stepped up (getD links (number w) 0))) links
+unfoldable pub relinked : (up : Bool) (len w : ℕ) (links : List ℕ) → List ℕ
+relinked up len w links = cond (leadsOn len 0 w) (set links (number w) (stepped up (getD links (number w) 0))) links
 
 pub record Relinks (up : Bool) (len w : ℕ) (links : List ℕ) : Type 0 where
   pub inside : leadsOn len 0 w ≡ true → number w < length links

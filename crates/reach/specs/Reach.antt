@@ -1,6 +1,6 @@
 -- The directories and the tables that the 64 roots reach.
 use Prim.Native.Nat.{ℕ, _/_}
-use mathlib.Core.Bool.{Bool, not, _&&_, _||_}
+use mathlib.Core.Bool.{Bool, _&&_}
 use mathlib.Core.List.{List}
 use lib.ListN.{length, getD}
 use lib.Dec.{eqb}
@@ -9,8 +9,8 @@ use Rattle.page_table.specs.Words.{number}
 use Rattle.page_table.specs.Reads.{leadsOn}
 
 -- in a run of a length, the word w leads on to the stretch of a number, which has so many levels below it
-unfoldable pub leadsTo : (length levels w n : ℕ) → Bool
-leadsTo length levels w n = leadsOn length levels w && eqb (number w) n
+unfoldable pub leadsTo : (len levels w n : ℕ) → Bool
+leadsTo len levels w n = leadsOn len levels w && eqb (number w) n
 
 -- a root 0 to 63 leads on to directory d
 unfoldable pub directoryReached : (words : List ℕ) (d : ℕ) → Bool

@@ -51,6 +51,7 @@ fn relink(words: &[u32], links: &mut [u32], index: u32, old: u32)
         links::shift_root(words, links, index, word, true);
         return;
     }
+    // No root is left out.
     if links::reached_beside(words, 64, index / 512) {
         links::shift(links, words.len(), old, false);
         links::shift(links, words.len(), word, true);

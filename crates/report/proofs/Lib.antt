@@ -2,3 +2,4 @@ pub mod TotalLaws
 pub mod GainLaws
 pub mod StepLaws
 pub mod TallyLaws
+pub mod StartLaws

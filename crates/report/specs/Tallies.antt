@@ -5,6 +5,7 @@ use mathlib.Core.Bool.{Bool, true, false, cond}
 use mathlib.Core.List.{List, [], _∷_, _++_}
 use lib.ListN.{length, replicate}
 use lib.IntN.{ℤ, pos}
+use Rattle.registers.specs.declared.Registers.{Registers}
 use Rattle.slots.specs.Buffer.{Buffer}
 use Rattle.store.specs.Machine.{Machine}
 use Rattle.reach.specs.Index.{Indexes}
@@ -42,6 +43,14 @@ tallyOf m totals (c ∷ cs) = continued (tallyStep m totals c) (tallyOf (machine
 -- "each from the start state and zero tables": the tally of a file's bytes
 unfoldable pub fileTally : (lent : Buffer) (input : List ℕ) → Tally
 fileTally lent input = tallyOf (startMachine lent) (replicate 882 (pos 0)) (commandsOf input)
+
+-- What the start of a replay promises, whatever was lent: the start state, zero tables with their index, and totals that are all 0.
+pub record ReplayStarts (lent : Buffer) (registers : Registers) (buffer : Buffer) (words links presents : List ℕ) (totals : List ℤ)
+    : Type 0 where
+  pub machine-is : record { registers = registers; buffer = buffer; words = words } ≡ startMachine lent
+  pub totals-are : totals ≡ replicate 882 (pos 0)
+  pub indexed : Indexes words links presents
+  pub in-limit : AllWithin totals
 
 -- Reading in blocks gives the tally of the whole file: where a first stretch is whole records, the tally of both is that of the first,
 -- continued by that of the rest from the machine and the totals that it left.

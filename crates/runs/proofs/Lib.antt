@@ -3,3 +3,4 @@ pub mod Bits
 pub mod Counts
 pub mod Turns
 pub mod Pieces
+pub mod Fills

@@ -2,14 +2,13 @@
 use Prim.Native.Nat.{ℕ, zero, suc, _+_, _-_, _*_, _/_, _≤_, _<_}
 use mathlib.Core.Path.{_≡_, refl, sym, ap, _∙_}
 use mathlib.Core.Bool.{true}
-use mathlib.Core.List.{List, [], _∷_, _++_, append-assoc}
+use mathlib.Core.List.{List, _∷_, _++_, append-assoc}
 use mathlib.Core.Logic.{⊎-elim}
 use native.Mathlib.Nat.{add-suc, add-zero, mod-eq-of-lt, not-suc-le-zero, eq-or-lt-of-le, le-of-suc-le-suc, ne-of-lt}
-use native.Mathlib.Numerals.{add-one}
 use native.Mathlib.Omega.{arith}
-use lib.ListN.{length, set, take, drop, replicate, length-set, length-append, length-replicate, replicate-append-replicate}
+use lib.ListN.{length, set, take, drop, replicate, length-append, length-replicate}
 use lib.ListN.{take-append-drop}
-use lib.Seq.{take-suc-set, take-all, set-at, drop-cons, drop-drop, length-take-le}
+use lib.Seq.{set-at, drop-cons, drop-drop, length-take-le}
 use borrow.Rule.Slice.PartMut.{putMid, midOf, mid-len, same-len-mid}
 use Rattle.entry.specs.Address.{setOf}
 use Rattle.entry.specs.Empty.{emptyEntry}
@@ -18,31 +17,6 @@ use Rattle.slots.specs.Buffer.{Buffer, bufferFits, slotAt, withSlot}
 use Rattle.slots.specs.Buffer.Buffer.{Wide}
 use Rattle.slots.specs.Start.{emptyFirst, startBuffer}
 use Rattle.slots.proofs.Slots.{fits-length, at-same, at-other, fits-put}
-
--- a part is filled from its start: i numbers of it are e
-pub record Filled (old now : List ℕ) (e i : ℕ) : Type 0 where
-  pub same-length : length now ≡ length old
-  pub in-range : i ≤ length old
-  pub front : take i now ≡ replicate i e
-
-pub fill-begin : (old : List ℕ) (e : ℕ) → Filled old old e 0
-fill-begin old e = record { same-length = refl; in-range = omega arith; front = refl }
-
-pub fill-turn : (old now : List ℕ) (e i : ℕ) → Filled old now e i → i < length old → Filled old (set now i e) e (i + 1)
-fill-turn old now e i f l = rw (add-one i) (record {
-  same-length = length-set now i e ∙ f .same-length;
-  in-range = l;
-  front =
-      take-suc-set now i e (omega (arith, f .same-length))
-      ∙ ap (λ (r : List ℕ). r ++ (e ∷ [])) (f .front)
-      ∙ replicate-append-replicate i 1 e
-      ∙ ap (λ (k : ℕ). replicate k e) (add-one i);
-})
-
-pub fill-end : (old now : List ℕ) (e i : ℕ) → Filled old now e i → length old ≤ i → now ≡ replicate (length old) e
-fill-end old now e i f l =
-    let k : i ≡ length old = (let a = f .in-range in omega arith) in
-    sym (take-all i now (omega (arith, f .same-length))) ∙ f .front ∙ ap (λ (k : ℕ). replicate k e) k
 
 -- one number more at the end of a run of equal ones
 shift : (k e : ℕ) (ys : List ℕ) → replicate k e ++ (e ∷ ys) ≡ e ∷ (replicate k e ++ ys)

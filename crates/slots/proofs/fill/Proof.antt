@@ -2,7 +2,7 @@ use native.Mathlib.Omega.{arith}
 use mathlib.Core.Path.{_≡_, refl}
 use Prim.Native.Nat.{_-_}
 use lib.ListN.{length}
-use Rattle.slots.proofs.Start.{Filled, fill-begin, fill-turn, fill-end}
+use Rattle.runs.proofs.Fills.{Filled, fill-begin, fill-turn, fill-end}
 use Rattle.slots.proofs.fill.Statement.{statement}
 use Rattle.slots.proofs.fill.Tie as tie
 
