@@ -3,3 +3,4 @@ pub mod GainLaws
 pub mod StepLaws
 pub mod TallyLaws
 pub mod StartLaws
+pub mod SumLaws
