@@ -4,3 +4,4 @@ pub mod StepLaws
 pub mod TallyLaws
 pub mod StartLaws
 pub mod SumLaws
+pub mod LimitLaws

@@ -25,7 +25,7 @@ use Rattle.report.proofs.GainLaws.{column-small}
 use Rattle.report.proofs.StartLaws.{zero-total}
 
 -- every amount of a list has a column
-abbrev Columned : List Gain → Type 0
+abbrev pub Columned : List Gain → Type 0
 Columned [] = Unit {0}
 Columned (g ∷ gs) = (g .column < 14) × Columned gs
 
@@ -51,7 +51,7 @@ store-columned (Fault value) change = tt
 store-columned (Done emptied) change = (omega arith, (omega arith, tt))
 store-columned (Refused number) change = tt
 
-gains-columned : (m : Machine) (c : Command) → Columned (gainsOf m c)
+pub gains-columned : (m : Machine) (c : Command) → Columned (gainsOf m c)
 unfolding gainsOf
 gains-columned m (Serve a) = access-columned ((stepReply m (Serve a)) .outcome) ((stepReply m (Serve a)) .loads)
 gains-columned m (Store index value) =
@@ -61,7 +61,7 @@ gains-columned m Malformed = tt
 
 -- one amount booked
 module _ (id : ℕ) (g : Gain) (totals : List ℤ) where
-  booked-length : length (booked id g totals) ≡ length totals
+  pub booked-length : length (booked id g totals) ≡ length totals
   unfolding booked
   booked-length = go (leb id 62)
     where
@@ -104,16 +104,17 @@ other-column a b c d h k ne e = ne (omega arith)
 
 -- a total of an identification, where amounts are booked under a context
 module _ (context id column : ℕ) (inside : id ≤ 62) (low : column < 14) where
-  abbrev now : List ℤ → ℤ
+  abbrev pub now : List ℤ → ℤ
   now totals = getD totals (totalAt id column) (pos 0)
 
-  abbrev one : Gain → ℤ
+  abbrev pub one : Gain → ℤ
   one g = cond (eqb context id) (cond (eqb (g .column) column) (g .amount) (pos 0)) (pos 0)
 
   abbrev all : List Gain → ℤ
   all gs = cond (eqb context id) (amountIn column gs) (pos 0)
 
-  booked-adds : (g : Gain) (totals : List ℤ) → g .column < 14 → length totals ≡ 882 → now (booked context g totals) ≡ now totals +ℤ one g
+  pub booked-adds : (g : Gain) (totals : List ℤ) → g .column < 14 → length totals ≡ 882
+      → now (booked context g totals) ≡ now totals +ℤ one g
   booked-adds g totals has long = go (eqb context id) refl (eqb (g .column) column) refl
     where
       go : (a : Bool) → eqb context id ≡ a → (b : Bool) → eqb (g .column) column ≡ b
@@ -179,7 +180,7 @@ module _ (context id column : ℕ) (inside : id ≤ 62) (low : column < 14) wher
 -- one record
 module _ (m : Machine) (totals : List ℤ) (c : Command) (id column : ℕ) (inside : id ≤ 62) (low : column < 14) (long : length totals ≡ 882)
     (fit : (bookedBy m totals c) .fits ≡ true) where
-  record-adds : (getD ((bookedBy m totals c) .totals) (totalAt id column) (pos 0)
+  pub record-adds : (getD ((bookedBy m totals c) .totals) (totalAt id column) (pos 0)
       ≡ getD totals (totalAt id column) (pos 0) +ℤ added m c id column) × (length ((bookedBy m totals c) .totals) ≡ 882)
   unfolding bookedBy added
   record-adds = books-add (m .registers .context) id column inside low (gainsOf m c) totals (gains-columned m c) long fit

@@ -1,9 +1,9 @@
--- The totals as sums over the records: what a record adds to a total, and that the totals of a replay are those sums.
+-- The totals as sums over the records: the totals of a replay are those sums, and it stops where one of them passes the limit.
 use Prim.Native.Nat.{ℕ, _≤_, _<_}
 use mathlib.Core.Path.{_≡_}
 use mathlib.Core.Bool.{true, cond}
 use mathlib.Core.List.{List, [], _∷_}
-use lib.ListN.{length, getD}
+use lib.ListN.{length, getD, take}
 use lib.Dec.{eqb}
 use lib.IntN.{ℤ, pos, _+ℤ_}
 use Rattle.slots.specs.Buffer.{Buffer}
@@ -12,7 +12,7 @@ use Rattle.trace.specs.Commands.{commandsOf}
 use Rattle.trace.specs.Steps.{machineAfterStep}
 use Rattle.trace.specs.Traces.{startMachine}
 use Rattle.trace.specs.declared.Command.{Command}
-use Rattle.report.specs.Totals.{Gain, totalAt}
+use Rattle.report.specs.Totals.{Gain, totalAt, within, AllWithin}
 use Rattle.report.specs.Gains.{gainsOf}
 use Rattle.report.specs.Tallies.{tallyOf, fileTally}
 
@@ -42,3 +42,13 @@ TotalsAreSums = (m : Machine) (totals : List ℤ) (cs : List Command) (id column
 abbrev pub FileTotalsAreSums : Type 0
 FileTotalsAreSums = (lent : Buffer) (input : List ℕ) (id column : ℕ) → id ≤ 62 → column < 14 → (fileTally lent input) .fits ≡ true →
     getD ((fileTally lent input) .totals) (totalAt id column) (pos 0) ≡ sumOf (startMachine lent) (commandsOf input) id column
+
+-- after each number of the records, 0 among them, every total is within the limit
+pub record StaysWithin (m : Machine) (totals : List ℤ) (cs : List Command) : Type 0 where
+  pub each : (n id column : ℕ) → id ≤ 62 → column < 14
+      → within (getD totals (totalAt id column) (pos 0) +ℤ sumOf m (take n cs) id column) ≡ true
+
+-- "a total past 4,294,967,295 either way stops that file": the tally fits exactly where that sum is past the limit after no record.
+abbrev pub FitsWhereWithin : Type 0
+FitsWhereWithin = (m : Machine) (totals : List ℤ) (cs : List Command) → length totals ≡ 882 → AllWithin totals →
+    ((tallyOf m totals cs) .fits ≡ true → StaysWithin m totals cs) × (StaysWithin m totals cs → (tallyOf m totals cs) .fits ≡ true)
