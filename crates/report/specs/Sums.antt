@@ -48,7 +48,7 @@ pub record StaysWithin (m : Machine) (totals : List ℤ) (cs : List Command) : T
   pub each : (n id column : ℕ) → id ≤ 62 → column < 14
       → within (getD totals (totalAt id column) (pos 0) +ℤ sumOf m (take n cs) id column) ≡ true
 
--- "a total past 4,294,967,295 either way stops that file": the tally fits exactly where that sum is past the limit after no record.
+-- "a total past 4,294,967,295 either way stops that file": the tally fits exactly where no total is past the limit after any record.
 abbrev pub FitsWhereWithin : Type 0
 FitsWhereWithin = (m : Machine) (totals : List ℤ) (cs : List Command) → length totals ≡ 882 → AllWithin totals →
     ((tallyOf m totals cs) .fits ≡ true → StaysWithin m totals cs) × (StaysWithin m totals cs → (tallyOf m totals cs) .fits ≡ true)
