@@ -3,3 +3,5 @@ pub mod GainLaws
 pub mod StepLaws
 pub mod TallyLaws
 pub mod StartLaws
+pub mod SumLaws
+pub mod LimitLaws

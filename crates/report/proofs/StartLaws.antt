@@ -70,7 +70,7 @@ zero-indexed n k e = record {
     long : length (zeros k) ≡ length (zeros n) / 1024
     long = length-replicate k 0 ∙ e ∙ ap (λ (x : ℕ). x / 1024) (sym (length-replicate n 0))
 
-zero-total : (n i : ℕ) → getD (replicate n (pos 0)) i (pos 0) ≡ pos 0
+pub zero-total : (n i : ℕ) → getD (replicate n (pos 0)) i (pos 0) ≡ pos 0
 zero-total zero i = refl
 zero-total (suc n) zero = refl
 zero-total (suc n) (suc i) = zero-total n i

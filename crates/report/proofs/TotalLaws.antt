@@ -60,7 +60,7 @@ module _ (x y : ℤ) (h : natAbs x ≤ 4294967296) (k : natAbs y ≤ 4294967296)
   add-is = read-back (toZ w64 (ofZ w64 x) +ℤ toZ w64 (ofZ w64 y)) add-fits ∙ operands
 
 -- every total is within the limit, and stays so where the one that is set is
-all-set : (totals : List ℤ) (at : ℕ) (total : ℤ) → AllWithin totals → at < length totals → natAbs total ≤ 4294967295
+pub all-set : (totals : List ℤ) (at : ℕ) (total : ℤ) → AllWithin totals → at < length totals → natAbs total ≤ 4294967295
     → AllWithin (set totals at total)
 all-set totals at total all inside h = record { each = λ i. go i (eqb i at) refl }
   where

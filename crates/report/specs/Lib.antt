@@ -1,3 +1,4 @@
 pub mod Totals
 pub mod Gains
 pub mod Tallies
+pub mod Sums

@@ -71,7 +71,8 @@ pub record CountGives (t : Tally) (counted : Counted) (buffer-after : Buffer) (w
   pub in-limit : counted .fits ≡ true → AllWithin totals-after
 
 -- the same of an access, which leaves the tables
-pub record AccessCounts (t : Tally) (counted : Counted) (buffer-after : Buffer) (words-after : List ℕ) (totals-after : List ℤ) : Type 0 where
+pub record AccessCounts (t : Tally) (counted : Counted) (buffer-after : Buffer) (words-after : List ℕ) (totals-after : List ℤ)
+    : Type 0 where
   pub machine-is : record { registers = counted .registers; buffer = buffer-after; words = words-after } ≡ t .machine
   pub totals-are : totals-after ≡ t .totals
   pub fits-is : counted .fits ≡ t .fits
