@@ -155,69 +155,49 @@ fn count_file(
     }
 }
 
+// Counts an open file, with a buffer, tables and totals of its own.
+fn count_open(fd: i32, number: u64, block: &mut [u8], out: &mut [u8]) -> usize
+    requires { ⌜ length (now out) ≡ 20480 ⌝ }
+    ensures { λ n. ⌜ n ≤ length (now (out .exit)) ⌝ }
+{
+    let mut buffer = [0u64; 64];
+    let mut words: [u32; 16384] = [0; 16384];
+    let mut links = [0u32; 16];
+    let mut presents = [0u32; 16];
+    let mut totals = [0i64; 882];
+    count_file(
+        fd,
+        number,
+        &mut buffer,
+        &mut words,
+        &mut links,
+        &mut presents,
+        &mut totals,
+        block,
+        out,
+    )
+}
+
 // Opens and counts a file; one that can't be opened is unread.
-fn report_file(
-    path: &[u8],
-    number: u64,
-    buffer: &mut [u64],
-    words: &mut [u32],
-    links: &mut [u32],
-    presents: &mut [u32],
-    totals: &mut [i64],
-    block: &mut [u8],
-    out: &mut [u8],
-) -> usize
-    requires { ⌜ (length (now buffer) ≡ 64) × (length (now words) ≡ 16384) × (length (now links) ≡ 16) × (length (now presents) ≡ 16)
-        × (length (now totals) ≡ 882) × (length (now out) ≡ 20480) ⌝ }
+fn report_file(path: &[u8], number: u64, block: &mut [u8], out: &mut [u8]) -> usize
+    requires { ⌜ length (now out) ≡ 20480 ⌝ }
     ensures { λ n. ⌜ n ≤ length (now (out .exit)) ⌝ }
 {
     let fd = os::open_read(path);
     if fd < 0 {
         return rows::put_unread(out, number);
     }
-    let n = count_file(
-        fd,
-        number,
-        buffer,
-        words,
-        links,
-        presents,
-        totals,
-        block,
-        out,
-    );
+    let n = count_open(fd, number, block, out);
     libc::close(fd);
     n
 }
 
 // Writes the lines of the file that an argument names, and answers whether they could be written.
-fn report_argument(
-    i: usize,
-    number: u64,
-    path: &mut [u8],
-    buffer: &mut [u64],
-    words: &mut [u32],
-    links: &mut [u32],
-    presents: &mut [u32],
-    totals: &mut [i64],
-    block: &mut [u8],
-    out: &mut [u8],
-) -> bool
-    requires { ⌜ (length (now buffer) ≡ 64) × (length (now words) ≡ 16384) × (length (now links) ≡ 16) × (length (now presents) ≡ 16)
-        × (length (now totals) ≡ 882) × (length (now out) ≡ 20480) ⌝ }
+fn report_argument(i: usize, number: u64, path: &mut [u8], block: &mut [u8], out: &mut [u8]) -> bool
+    requires { ⌜ length (now out) ≡ 20480 ⌝ }
 {
     let length = os::arg(i, path);
-    let n = report_file(
-        &path[..length],
-        number,
-        buffer,
-        words,
-        links,
-        presents,
-        totals,
-        block,
-        out,
-    );
+    let n = report_file(&path[..length], number, block, out);
     io::write_all(1, &out[..n])
 }
 
@@ -230,55 +210,20 @@ fn next(i: usize, count: usize, written: bool) -> usize
 }
 
 // The files that the arguments name, one after the other. The first argument is the program's own name.
-fn report_files(
-    path: &mut [u8],
-    buffer: &mut [u64],
-    words: &mut [u32],
-    links: &mut [u32],
-    presents: &mut [u32],
-    totals: &mut [i64],
-    block: &mut [u8],
-    out: &mut [u8],
-)
-    requires { ⌜ (length (now buffer) ≡ 64) × (length (now words) ≡ 16384) × (length (now links) ≡ 16) × (length (now presents) ≡ 16)
-        × (length (now totals) ≡ 882) × (length (now out) ≡ 20480) ⌝ }
+fn report_files(path: &mut [u8], block: &mut [u8], out: &mut [u8])
+    requires { ⌜ length (now out) ≡ 20480 ⌝ }
 {
     let count = os::arg_count();
     let mut i: usize = 1;
     while i < count {
-        let written = report_argument(
-            i,
-            i as u64 - 1,
-            path,
-            buffer,
-            words,
-            links,
-            presents,
-            totals,
-            block,
-            out,
-        );
+        let written = report_argument(i, i as u64 - 1, path, block, out);
         i = next(i, count, written);
     }
 }
 
 fn main() {
     let mut path = [0u8; 4096];
-    let mut buffer = [0u64; 64];
-    let mut words: [u32; 16384] = [0; 16384];
-    let mut links = [0u32; 16];
-    let mut presents = [0u32; 16];
-    let mut totals = [0i64; 882];
     let mut block = [0u8; 65536];
     let mut out = [0u8; 20480];
-    report_files(
-        &mut path,
-        &mut buffer,
-        &mut words,
-        &mut links,
-        &mut presents,
-        &mut totals,
-        &mut block,
-        &mut out,
-    );
+    report_files(&mut path, &mut block, &mut out);
 }
