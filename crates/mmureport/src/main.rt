@@ -130,8 +130,37 @@ fn replay(
     Ending::Whole
 }
 
-// Counts a file from the start state, and writes its lines behind the file's number.
+// Counts a file from the start state.
 fn count_file(
+    fd: i32,
+    buffer: &mut [u64],
+    words: &mut [u32],
+    links: &mut [u32],
+    presents: &mut [u32],
+    totals: &mut [i64],
+    block: &mut [u8],
+) -> Ending
+    requires { ⌜ (length (now buffer) ≡ 64) × (length (now words) ≡ 16384) × (length (now links) ≡ 16) × (length (now presents) ≡ 16)
+        × (length (now totals) ≡ 882) ⌝ }
+{
+    let registers = report::start(buffer, words, links, presents, totals);
+    replay(fd, registers, buffer, words, links, presents, totals, block)
+}
+
+// Writes the lines of a file by its ending.
+fn put_ending(out: &mut [u8], number: u64, totals: &[i64], ending: Ending) -> usize
+    requires { ⌜ (length (now out) ≡ 20480) × (length (now totals) ≡ 882) ⌝ }
+    ensures { λ n. ⌜ n ≤ length (now (out .exit)) ⌝ }
+{
+    match ending {
+        Ending::Unread => rows::put_unread(out, number),
+        Ending::Refused => rows::put_refused(out, number),
+        Ending::Whole => rows::put_report(out, number, totals),
+    }
+}
+
+// Counts a file and writes its lines.
+fn report_open(
     fd: i32,
     number: u64,
     buffer: &mut [u64],
@@ -146,13 +175,8 @@ fn count_file(
         × (length (now totals) ≡ 882) × (length (now out) ≡ 20480) ⌝ }
     ensures { λ n. ⌜ n ≤ length (now (out .exit)) ⌝ }
 {
-    let registers = report::start(buffer, words, links, presents, totals);
-    let ending = replay(fd, registers, buffer, words, links, presents, totals, block);
-    match ending {
-        Ending::Unread => rows::put_unread(out, number),
-        Ending::Refused => rows::put_refused(out, number),
-        Ending::Whole => rows::put_report(out, number, totals),
-    }
+    let ending = count_file(fd, buffer, words, links, presents, totals, block);
+    put_ending(out, number, totals, ending)
 }
 
 // Counts an open file, with a buffer, tables and totals of its own.
@@ -165,7 +189,7 @@ fn count_open(fd: i32, number: u64, block: &mut [u8], out: &mut [u8]) -> usize
     let mut links = [0u32; 16];
     let mut presents = [0u32; 16];
     let mut totals = [0i64; 882];
-    count_file(
+    report_open(
         fd,
         number,
         &mut buffer,
