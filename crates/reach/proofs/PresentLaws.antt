@@ -153,7 +153,8 @@ module _ (words links presents : List ℕ) (fits : tablesFit words ≡ true) (in
       let here : getD presents t 0 ≡ count (λ k. isLeafWord words (1024 * t + k)) 1024 =
       rw (index .presents-are) (presents-at words t l)
       ∙ sym (count-same (λ k. isLeafWord words (1024 * t + k)) (λ k. present (getD words (1024 * t + k) 0)) 1024
-      (λ k kl. in-table t k kl ∙ ap (λ (b : Bool). present (getD words (1024 * t + k) 0) && b) on ∙ and-true (present (getD words (1024 * t + k) 0)))) in
+      (λ k kl. in-table t k kl ∙ ap (λ (b : Bool). present (getD words (1024 * t + k) 0) && b) on ∙ and-true (present (getD words (1024
+      * t + k) 0)))) in
       record { some = omega arith; same = (let m = more t in let s = c .same in omega arith) }
     where
       pos-count : getD links t 0 ≡ count (λ j. directoryReached words (j / 512) && linksTo words j t) (length words)
@@ -176,7 +177,8 @@ module _ (words links presents : List ℕ) (fits : tablesFit words ≡ true) (in
       omega arith) in
       let here : count (λ k. isLeafWord words (1024 * t + k)) 1024 ≡ 0 =
       count-none (λ k. isLeafWord words (1024 * t + k)) 1024
-      (λ k kl. in-table t k kl ∙ ap (λ (b : Bool). present (getD words (1024 * t + k) 0) && b) off ∙ and-false (present (getD words (1024 * t + k) 0))) in
+      (λ k kl. in-table t k kl ∙ ap (λ (b : Bool). present (getD words (1024 * t + k) 0) && b) off ∙ and-false (present (getD words
+      (1024 * t + k) 0))) in
       record { some = omega arith; same = (let m = more t in let s = c .same in omega arith) }
     where
       and-false : (b : Bool) → b && false ≡ false

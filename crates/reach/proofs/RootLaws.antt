@@ -89,7 +89,8 @@ module _ (words : List ℕ) (root w : ℕ) where
 
   -- else it decides alone whether its directory is reached
   module _ (on : leadsOn (length words) 1 w ≡ true) (alone : reachedBeside words root (number w) ≡ false) where
-    decides : (b : Bool) → rootLinks b words root w ≡ linksFrom (λ j. cond (eqb (j / 512) (number w)) b (reachedBeside words root (j / 512))) words
+    decides : (b : Bool) → rootLinks b words root w ≡ linksFrom (λ j. cond (eqb (j / 512) (number w)) b (reachedBeside words root (j /
+        512))) words
     unfolding rootLinks reachedWith leadsTo
     decides b = go b
       where

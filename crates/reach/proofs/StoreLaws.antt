@@ -8,11 +8,12 @@ use native.Mathlib.Omega.{arith}
 use lib.ListN.{length, getD, set, length-set}
 use lib.Seq.{getD-set-same, getD-set-other}
 use lib.Dec.{eqb}
-use borrow.Author.Tests.{eqb-true, eqb-false, eq-eqb, ne-eqb}
+use borrow.Author.Tests.{eqb-true, eqb-false, eq-eqb, ne-eqb, not-true}
 use Rattle.runs.specs.Counts.{any}
-use Rattle.runs.proofs.Bools.{both, and-both, or-either, or-left, or-right, same-test}
+use Rattle.runs.proofs.Bools.{clash, both, and-both, or-either, or-left, or-right, same-test}
 use Rattle.runs.proofs.Counts.{any-at, any-from, any-same}
 use Rattle.page_table.specs.Stretches.{tablesFit}
+use Rattle.page_table.specs.Reads.{leadsOn}
 use Rattle.page_table.proofs.Stretches.{fit-bounds}
 use Rattle.reach.specs.Reach.{leadsTo, directoryReached, linksTo}
 use Rattle.reach.specs.Index.{linksFrom, linksOf, reachedBeside, reachedWith, rootLinks, relinked, Relinks}
@@ -26,6 +27,14 @@ by-number P j i same other = go (eqb j i) refl
     go : (b : Bool) → eqb j i ≡ b → P
     go true e = same (eqb-true j i e)
     go false e = other (eqb-false j i e)
+
+and-false : (b : Bool) → b && false ≡ false
+and-false true = refl
+and-false false = refl
+
+or-neither : (a b : Bool) → a || b ≡ false → (a ≡ false) × (b ≡ false)
+or-neither true b h = absurd (clash refl h)
+or-neither false b h = (refl, h)
 
 -- where no root is left out
 pub beside-none : (words : List ℕ) (d : ℕ) → reachedBeside words 64 d ≡ directoryReached words d
@@ -73,7 +82,8 @@ module _ (a words : List ℕ) (i w : ℕ) (long : length a ≡ length words) (he
           (subst (λ (v : ℕ). leadsTo (length words) 1 v d ≡ true) (sym (others (s .0) (unequal (s .0) (b .0)))) (b .1)))
         where
           unequal : (r : ℕ) → not (eqb r i) ≡ true → r ≡ i → ⊥
-          unequal r n e = let q = eq-eqb r i e in let z : _≡_ {A = Bool} false true = rw q at n in let y : _≡_ {A = ℕ} 0 1 = cc in omega arith
+          unequal r n e = let q = eq-eqb r i e in let z : _≡_ {A = Bool} false true = rw q at n in let y : _≡_ {A = ℕ} 0 1 = cc in omega
+              arith
 
       back : beside || leadsTo (length words) 1 w d ≡ true → any (λ r. leadsTo (length a) 1 (getD a r 0) d) 64 ≡ true
       back h =
@@ -116,6 +126,20 @@ module _ (a words : List ℕ) (i w : ℕ) (long : length a ≡ length words) (he
         let none : directoryReached words (j / 512) ≡ false = ap (λ (k : ℕ). directoryReached words (k / 512)) e ∙ un in
         let no-more : directoryReached a (j / 512) ≡ false = reached-same (j / 512) ∙ none in
         rw (none, no-more))
+        (λ ne. ap₂ _&&_ (reached-same (j / 512)) (links-others j t ne)))
+
+    -- or leads nowhere, neither before nor now
+    pub links-idle : leadsOn (length words) 0 w ≡ false → leadsOn (length words) 0 (getD words i 0) ≡ false → linksOf a ≡ linksOf words
+    unfolding linksOf linksTo leadsTo
+    links-idle was now =
+        links-same (λ j. directoryReached a (j / 512)) (λ j. directoryReached words (j / 512)) a words long
+        (λ j t l.
+        by-number (directoryReached a (j / 512) && linksTo a j t ≡ directoryReached words (j / 512) && linksTo words j t) j i
+        (λ e.
+        let none : linksTo a j t ≡ false = ap (λ (k : ℕ). linksTo a k t) e ∙ rw (here, long, was) in
+        let no-more : linksTo words j t ≡ false = ap (λ (k : ℕ). linksTo words k t) e ∙ rw now in
+        ap (λ (b : Bool). directoryReached a (j / 512) && b) none ∙ and-false (directoryReached a (j / 512))
+        ∙ sym (ap (λ (b : Bool). directoryReached words (j / 512) && b) no-more ∙ and-false (directoryReached words (j / 512))))
         (λ ne. ap₂ _&&_ (reached-same (j / 512)) (links-others j t ne)))
 
     -- or in one: its old link is taken away, its new one added
@@ -176,6 +200,13 @@ module _ (words links : List ℕ) (i old : ℕ) (e : links ≡ linksOf (set word
 
   pub is-root : i < 64 → (now : List ℕ) → now ≡ rootLinks true words i (getD words i 0) → now ≡ linksOf words
   is-root root now q = q ∙ sym (root-links words words i (getD words i 0) refl refl (λ r ne. refl) root)
+
+  module _ (before now : Bool) (led : before ≡ leadsOn (length words) 0 old) (leads : now ≡ leadsOn (length words) 0 (getD words i 0)) where
+    pub idle : 64 ≤ i → not (before || now) ≡ true → links ≡ linksOf words
+    idle inner h =
+        let none = or-neither before now (not-true (before || now) h) in
+        e ∙ links-idle (set words i old) words i old (length-set words i old) old-here old-others inner (sym led ∙ none .0) (sym leads ∙
+        none .1)
 
   module _ (inner : 64 ≤ i) (on : Bool) (reached : on ≡ reachedBeside words 64 (i / 512)) where
     reached-is : directoryReached words (i / 512) ≡ on

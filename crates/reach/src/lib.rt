@@ -51,10 +51,14 @@ fn relink(words: &[u32], links: &mut [u32], index: u32, old: u32)
         links::shift_root(words, links, index, word, true);
         return;
     }
+    let length = words.len();
+    if !(page_table::leads_on(length, 0, old) | page_table::leads_on(length, 0, word)) {
+        return;
+    }
     // No root is left out.
     if links::reached_beside(words, 64, index / 512) {
-        links::shift(links, words.len(), old, false);
-        links::shift(links, words.len(), word, true);
+        links::shift(links, length, old, false);
+        links::shift(links, length, word, true);
     }
 }
 

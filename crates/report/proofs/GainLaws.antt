@@ -62,7 +62,8 @@ module _ (id value loads : ℕ) (totals : List ℤ) (b : Bool) (mid : List ℤ)
 -- an access by its outcome
 module _ (id loads : ℕ) (outcome : Outcome) (totals : List ℤ) where
   pub access-at : (address : ℕ) (b : Bool) (after : List ℤ) → outcome ≡ At address
-      → BooksGive id (gain SERVED (pos 1) ∷ gain LOADS (pos loads) ∷ []) totals b after → BooksGive id (accessGains outcome loads) totals b after
+      → BooksGive id (gain SERVED (pos 1) ∷ gain LOADS (pos loads) ∷ []) totals b after → BooksGive id (accessGains outcome loads)
+      totals b after
   unfolding accessGains
   access-at address b after e p = subst (λ (o : Outcome). BooksGive id (accessGains o loads) totals b after) (sym e) p
 

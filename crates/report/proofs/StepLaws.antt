@@ -41,7 +41,12 @@ use Rattle.report.proofs.TotalLaws.{books-none}
 pub step-machine : (m : Machine) (c : Command) (reply : Reply) (buffer : Buffer) (words : List ℕ) → StepGives m c reply buffer words
     → _≡_ {A = Machine} (record { registers = reply .registers; buffer = buffer; words = words }) (machineAfterStep m c)
 unfolding machineAfterStep
-step-machine m c reply buffer words s = λ j. record { registers = s .reply-is j .registers; buffer = s .buffer-is j; words = s .words-are j }
+step-machine m c reply buffer words s = λ j. record {
+  registers = s .reply-is j .registers;
+  buffer = s .buffer-is j;
+  words = s
+      .words-are j;
+}
 
 -- an access
 pub access-counts : (m : Machine) (totals : List ℤ) (a : Access) (reply : Reply) (buffer : Buffer) (words : List ℕ) (b : Bool)
@@ -130,7 +135,8 @@ module _ (m : Machine) (index value : ℕ) (reply : Reply) (buffer : Buffer) (wo
     pub store-counts : (links presents : List ℕ) → Indexes words links presents → (before after : ℕ) → before ≡ leafCount (m .words)
         → after ≡ leafCount words → (b : Bool) (totals-after : List ℤ)
         → BooksGive (m .registers .context) (gain EMPTIED (pos n) ∷ gain CHANGE (pos after -ℤ pos before) ∷ []) totals b totals-after
-        → CountGives (tallyStep m totals (Store index value)) (record { registers = reply .registers; fits = b }) buffer words links presents
+        → CountGives (tallyStep m totals (Store index value)) (record { registers = reply .registers; fits = b }) buffer words links
+        presents
         totals-after
     unfolding tallyStep bookedBy gainsOf storeGains leafChange
     store-counts links presents x before after eb ea b totals-after q =
@@ -149,7 +155,8 @@ module _ (m : Machine) (index value : ℕ) (reply : Reply) (buffer : Buffer) (wo
   -- it was not
   pub store-nothing : (links presents : List ℕ) → Indexes (m .words) links presents → AllWithin totals
       → OneOf (0 ∷ 1 ∷ 3 ∷ []) (tagOf the-type (reply .outcome))
-      → CountGives (tallyStep m totals (Store index value)) (record { registers = reply .registers; fits = true }) buffer words links presents
+      → CountGives (tallyStep m totals (Store index value)) (record { registers = reply .registers; fits = true }) buffer words links
+      presents
       totals
   unfolding tallyStep bookedBy gainsOf stepReply wordsAfterStep
   store-nothing links presents x all k =

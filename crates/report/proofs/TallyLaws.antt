@@ -95,7 +95,8 @@ module _ (m₀ : Machine) (totals₀ : List ℤ) (input : List ℕ) where
     unfolding tablesFit
     replay-fits e f = (r .long ∙ e, r .all, ap lengthFits (r .wide) ∙ f, r .indexed)
 
-    module _ (l : i < count) (c : Command) (at : c ≡ commandAt input i) (counted : Counted) (buffer : Buffer) (words links′ presents′ : List ℕ)
+    module _ (l : i < count) (c : Command) (at : c ≡ commandAt input i) (counted : Counted) (buffer : Buffer) (words links′ presents′ :
+        List ℕ)
         (totals′ : List ℤ) (s : CountGives (tallyStep m totals c) counted buffer words links′ presents′ totals′) where
       turned : tallyOf m₀ totals₀ (commandsFrom input 0 (i + 1)) ≡ tallyStep m totals c
       unfolding continued
@@ -114,7 +115,12 @@ module _ (m₀ : Machine) (totals₀ : List ℤ) (input : List ℕ) where
         some = omega arith;
         same =
             turned
-            ∙ (λ j. record { machine = sym (s .machine-is) j; totals = sym (s .totals-are) j; fits = (sym (s .fits-is) ∙ not-false (counted .fits) e) j });
+            ∙ (λ j. record {
+              machine = sym (s .machine-is) j;
+              totals = sym (s .totals-are) j;
+              fits = (sym (s .fits-is) ∙ not-false
+                  (counted .fits) e) j;
+            });
         indexed = s .indexed;
         all = s .in-limit (not-false (counted .fits) e);
         long = k ∙ r .long;
@@ -136,7 +142,8 @@ module _ (m₀ : Machine) (totals₀ : List ℤ) (input : List ℕ) where
           ∙ ap (λ (b : Bool). cond b
           (tallyOf ((tallyStep m totals c) .machine) ((tallyStep m totals c) .totals) (commandsFrom input (0 + (i + 1)) (count - (i + 1))))
           (tallyStep m totals c)) (sym (s .fits-is) ∙ off) in
-          subst (λ (t : Tally). CountGives t (record { registers = counted .registers; fits = false }) buffer words links′ presents′ totals′)
+          subst (λ (t : Tally). CountGives t (record { registers = counted .registers; fits = false }) buffer words links′ presents′
+          totals′)
           (sym whole)
           (record {
             machine-is = s .machine-is;
@@ -149,7 +156,8 @@ module _ (m₀ : Machine) (totals₀ : List ℤ) (input : List ℕ) where
   pub replayed-all : (count : ℕ) (registers : Registers) (buffer : Buffer) (words links presents : List ℕ) (totals : List ℤ) (i : ℕ)
       → Replayed count (record { registers = registers; buffer = buffer; words = words }) links presents totals i → count ≤ i
       → count ≡ recordCount (length input)
-      → CountGives (tallyOf m₀ totals₀ (commandsOf input)) (record { registers = registers; fits = true }) buffer words links presents totals
+      → CountGives (tallyOf m₀ totals₀ (commandsOf input)) (record { registers = registers; fits = true }) buffer words links presents
+      totals
   unfolding commandsOf
   replayed-all count registers buffer words links presents totals i r l n =
       let e : i ≡ recordCount (length input) = omega (arith, r .some) in

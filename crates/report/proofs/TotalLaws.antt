@@ -117,12 +117,19 @@ books-one id g totals b after p = record {
 }
   where
     same : (w : Bool) → booked id g totals
-        ≡ (cond {A = Booked} w (record { totals = booked id g totals; fits = true }) (record { totals = booked id g totals; fits = false })) .totals
+        ≡ (cond {A = Booked} w (record { totals = booked id g totals; fits = true }) (record {
+          totals = booked id g totals;
+          fits = false;
+        })) .totals
     same true = refl
     same false = refl
 
     told : (w : Bool)
-        → w ≡ (cond {A = Booked} w (record { totals = booked id g totals; fits = true }) (record { totals = booked id g totals; fits = false })) .fits
+        → w ≡ (cond {A = Booked} w (record { totals = booked id g totals; fits = true }) (record {
+          totals = booked id g totals;
+          fits =
+              false;
+        })) .fits
     told true = refl
     told false = refl
 
@@ -156,7 +163,8 @@ module _ (id : ℕ) (gs hs : List Gain) (totals : List ℤ) (b : Bool) (mid : Li
       whole : bookedAll id (gs ++ hs) totals ≡ bookedAll id hs mid
       whole =
           booked-append id gs hs totals
-          ∙ ap₂ (λ (w : Bool) (ts : List ℤ). cond w (bookedAll id hs ts) (bookedAll id gs totals)) (sym (p .fits-is) ∙ e) (sym (p .totals-are))
+          ∙ ap₂ (λ (w : Bool) (ts : List ℤ). cond w (bookedAll id hs ts) (bookedAll id gs totals)) (sym (p .fits-is) ∙ e) (sym (p
+          .totals-are))
 
   pub books-stop : b ≡ false → BooksGive id (gs ++ hs) totals false mid
   books-stop e = record {

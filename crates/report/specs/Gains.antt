@@ -13,6 +13,7 @@ use Rattle.trace.specs.declared.Command.{Command}
 use Rattle.trace.specs.declared.Command.the-variants.{Serve, Store, Set, Malformed}
 use Rattle.report.specs.Totals.{Gain, SERVED, LOADS, EMPTIED, CHANGE}
 
+-- an amount for a column
 unfoldable pub gain : (column : ℕ) (amount : ℤ) → Gain
 gain column amount = record { column = column; amount = amount }
 
@@ -20,6 +21,7 @@ gain column amount = record { column = column; amount = amount }
 unfoldable pub hasColumn : (value : ℕ) → Bool
 hasColumn value = (leb 1 value && leb value 8) || eqb value 16 || eqb value 32
 
+-- the column of such a value
 unfoldable pub faultColumn : (value : ℕ) → ℕ
 faultColumn value = cond (leb value 8) (value + 1) (cond (eqb value 16) 10 11)
 

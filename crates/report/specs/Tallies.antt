@@ -17,8 +17,8 @@ use Rattle.report.specs.Totals.{Booked, bookedAll, AllWithin}
 use Rattle.report.specs.Gains.{gainsOf}
 use Rattle.report.specs.declared.Counted.{Counted}
 
--- the machine and the totals after some records, and whether every total stayed within the limit. The file stops at the first record that
--- takes one past it: number 9.
+-- The machine and the totals after some records, and whether every total stayed within the limit. The file stops at the first record that
+-- takes one past it: number 9. That record's gains are then booked up to the one that passed, and the totals are not printed.
 pub record Tally : Type 0 where
   pub machine : Machine
   pub totals : List ℤ

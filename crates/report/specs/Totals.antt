@@ -42,7 +42,7 @@ booked id g totals =
 unfoldable pub within : ℤ → Bool
 within total = leb (natAbs total) 4294967295
 
--- so is the one to which an amount was just booked
+-- the total to which an amount is booked stays within the limit
 unfoldable pub bookedWithin : (id : ℕ) → Gain → (totals : List ℤ) → Bool
 bookedWithin id g totals = cond (leb id 62) (within (getD totals (totalAt id (g .column)) (pos 0) +ℤ g .amount)) true
 

@@ -27,7 +27,16 @@ slice-aggregate-run : tie.Need-slice-aggregate-run
 slice-aggregate-run c = sym (length-take-le _ _ (c .before .before .before .before .before .before .before .before .before .fill .ensures))
 
 run-requires : tie.Need-run-requires
-run-requires c κs = (c .before .before .before .before .before .before .before .before .before .before .before .before .before .before .before .before .pre .columns, c .before .before .before .before .before .before .before .before .before .before .before .before .before .before .before .before .pre .in-limit, c .before .before .before .before .before .before .before .before .before .before .before .before .before .before .before .before .pre .fit, c .before .before .before .before .before .before .before .before .before .before .before .before .before .before .before .before .pre .indexed)
+run-requires c κs = (
+  c .before .before .before .before .before .before .before .before .before .before .before .before .before .before
+      .before .before .pre .columns,
+  c .before .before .before .before .before .before .before .before .before .before .before .before
+      .before .before .before .before .pre .in-limit,
+  c .before .before .before .before .before .before .before .before .before .before
+      .before .before .before .before .before .before .pre .fit,
+  c .before .before .before .before .before .before .before .before .before
+      .before .before .before .before .before .before .before .pre .indexed,
+)
 
 after-block-requires-2 : tie.Need-after-block-requires-2
 after-block-requires-2 c κs = tt
@@ -48,7 +57,8 @@ same-length-6 : tie.Need-same-length-6
 same-length-6 c = c .before .before .before .before .totals .given
 
 same-length-7 : tie.Need-same-length-7
-same-length-7 c = c .before .before .before .before .before .before .before .before .before .before .before .before .before .before .before .before .before .before .before .before .before .before .block .given
+same-length-7 c = c .before .before .before .before .before .before .before .before .before .before .before .before .before .before
+    .before .before .before .before .before .before .before .before .block .given
 
 returns-2 : tie.Need-returns-2
 returns-2 c = λ e. absurd (clash e (c .after-block2 .ensures))
@@ -72,10 +82,21 @@ same-length-12 : tie.Need-same-length-12
 same-length-12 c = c .before .before .before .before .totals .given
 
 same-length-13 : tie.Need-same-length-13
-same-length-13 c = c .before .before .before .before .before .before .before .before .before .before .before .before .before .before .before .before .before .before .before .before .before .before .block .given
+same-length-13 c = c .before .before .before .before .before .before .before .before .before .before .before .before .before .before
+    .before .before .before .before .before .before .before .before .block .given
 
 returns-3 : tie.Need-returns-3
-returns-3 c = λ e. ready-again _ _ _ _ (c .before .before .before .before .before .before .before .before .before .before .before .before .before .before .before .before .before .before .before .before .before .before .before .before .before .before .before .before .before .before .args .totals .now) _ (c .before .before .before .before .before .before .before .before .before .before .before .before .before .before .before .before .before .before .before .before .before .before .before .before .before .before .before .before .before .before .pre .columns) (c .before .before .before .before .before .before .before .before .before .before .before .before .before .before .before .before .before .before .before .before .before .before .before .before .before .before .before .before .before .before .pre .fit) (c .before .before .before .before .totals .given) (c .before .before .before .before .before .before .before .before .before .before .words .given) (c .before .before .before .before .before .before .before .before .before .before .before .before .before .run .ensures .in-limit (not-false (c .before .before .before .before .before .before .before .before .before .before .before .before .before .run .result .fits) (c .before .if2 .left))) (c .before .before .before .before .before .before .before .before .before .before .before .before .before .run .ensures .indexed)
+returns-3 c = λ e. ready-again _ _ _ _ (c .before .before .before .before .before .before .before .before .before .before .before
+    .before .before .before .before .before .before .before .before .before .before .before .before .before .before .before .before
+    .before .before .before .args .totals .now) _ (c .before .before .before .before .before .before .before .before .before .before
+    .before .before .before .before .before .before .before .before .before .before .before .before .before .before .before .before
+    .before .before .before .before .pre .columns) (c .before .before .before .before .before .before .before .before .before .before
+    .before .before .before .before .before .before .before .before .before .before .before .before .before .before .before .before
+    .before .before .before .before .pre .fit) (c .before .before .before .before .totals .given) (c .before .before .before .before
+    .before .before .before .before .before .before .words .given) (c .before .before .before .before .before .before .before .before
+    .before .before .before .before .before .run .ensures .in-limit (not-false (c .before .before .before .before .before .before
+    .before .before .before .before .before .before .before .run .result .fits) (c .before .if2 .left))) (c .before .before .before
+    .before .before .before .before .before .before .before .before .before .before .run .ensures .indexed)
 
 pub count-block-spec : {M : Type 1} → statement M
 count-block-spec =

@@ -31,38 +31,71 @@ block-of-requires : tie.Need-block-of-requires Inv-loop μ-loop
 block-of-requires c κs = tt
 
 same-length : tie.Need-same-length Inv-loop μ-loop
-same-length c = read-length (c .before .before .before .before .before .before .before .loop .block) (c .before .before .before .before .read-some .last .1 .0) (c .before .before .before .before .before .before .before .loop .done) _ 0 (c .before .before .before .before .before .before .before .loop .inv .1) (c .before .before .before .before .before .before .before .loop .inv .0) (c .before .before .before .before .read-some .kept .1 .0)
+same-length c = read-length (c .before .before .before .before .before .before .before .loop .block) (c .before .before .before .before
+    .read-some .last .1 .0) (c .before .before .before .before .before .before .before .loop .done) _ 0 (c .before .before .before
+    .before .before .before .before .loop .inv .1) (c .before .before .before .before .before .before .before .loop .inv .0) (c .before
+    .before .before .before .read-some .kept .1 .0)
 
 returns : tie.Need-returns Inv-loop μ-loop
 returns c =
-    let e = read-length (c .before .before .before .before .before .before .before .loop .block) (c .before .before .before .before .read-some .last .1 .0) (c .before .before .before .before .before .before .before .loop .done) _ 0 (c .before .before .before .before .before .before .before .loop .inv .1) (c .before .before .before .before .before .before .before .loop .inv .0) (c .before .before .before .before .read-some .kept .1 .0) in
+    let e = read-length (c .before .before .before .before .before .before .before .loop .block) (c .before .before .before .before
+    .read-some .last .1 .0) (c .before .before .before .before .before .before .before .loop .done) _ 0 (c .before .before .before
+    .before .before .before .before .loop .inv .1) (c .before .before .before .before .before .before .before .loop .inv .0) (c
+    .before .before .before .before .read-some .kept .1 .0) in
     omega (arith, c .block-of .ensures, c .before .before .before .before .before .before .before .loop .inv .0)
 
 block-of-requires-2 : tie.Need-block-of-requires-2 Inv-loop μ-loop
 block-of-requires-2 c κs = tt
 
 same-length-2 : tie.Need-same-length-2 Inv-loop μ-loop
-same-length-2 c = read-length (c .before .before .before .before .before .before .before .before .before .loop .block) (c .before .before .before .before .before .before .read-some .last .1 .0) (c .before .before .before .before .before .before .before .before .before .loop .done) _ 0 (c .before .before .before .before .before .before .before .before .before .loop .inv .1) (c .before .before .before .before .before .before .before .before .before .loop .inv .0) (c .before .before .before .before .before .before .read-some .kept .1 .0)
+same-length-2 c = read-length (c .before .before .before .before .before .before .before .before .before .loop .block) (c .before
+    .before .before .before .before .before .read-some .last .1 .0) (c .before .before .before .before .before .before .before .before
+    .before .loop .done) _ 0 (c .before .before .before .before .before .before .before .before .before .loop .inv .1) (c .before
+    .before .before .before .before .before .before .before .before .loop .inv .0) (c .before .before .before .before .before .before
+    .read-some .kept .1 .0)
 
 returns-2 : tie.Need-returns-2 Inv-loop μ-loop
 returns-2 c =
-    let e = read-length (c .before .before .before .before .before .before .before .before .before .loop .block) (c .before .before .before .before .before .before .read-some .last .1 .0) (c .before .before .before .before .before .before .before .before .before .loop .done) _ 0 (c .before .before .before .before .before .before .before .before .before .loop .inv .1) (c .before .before .before .before .before .before .before .before .before .loop .inv .0) (c .before .before .before .before .before .before .read-some .kept .1 .0) in
+    let e = read-length (c .before .before .before .before .before .before .before .before .before .loop .block) (c .before .before
+    .before .before .before .before .read-some .last .1 .0) (c .before .before .before .before .before .before .before .before
+    .before .loop .done) _ 0 (c .before .before .before .before .before .before .before .before .before .loop .inv .1) (c .before
+    .before .before .before .before .before .before .before .before .loop .inv .0) (c .before .before .before .before .before
+    .before .read-some .kept .1 .0) in
     omega (arith, c .block-of2 .ensures, c .before .before .before .before .before .before .before .before .before .loop .inv .0)
 
 add-done : tie.Need-add-done Inv-loop μ-loop
 add-done c =
-    let f = read-fits (c .before .before .before .before .before .before .before .before .before .loop .block) (c .before .before .before .before .before .before .read-some .last .1 .0) (c .before .before .before .before .before .before .before .before .before .loop .done) _ (c .before .before .before .before .before .before .read-some .result .length) (c .before .before .before .before .before .before .before .before .before .loop .inv .1) (c .before .before .before .before .before .before .before .before .before .loop .inv .0) (c .before .before .before .before .before .before .read-some .kept .1 .0) (c .before .before .before .before .before .before .read-some .ensures) in
+    let f = read-fits (c .before .before .before .before .before .before .before .before .before .loop .block) (c .before .before
+    .before .before .before .before .read-some .last .1 .0) (c .before .before .before .before .before .before .before .before
+    .before .loop .done) _ (c .before .before .before .before .before .before .read-some .result .length) (c .before .before .before
+    .before .before .before .before .before .before .loop .inv .1) (c .before .before .before .before .before .before .before
+    .before .before .loop .inv .0) (c .before .before .before .before .before .before .read-some .kept .1 .0) (c .before .before
+    .before .before .before .before .read-some .ensures) in
     omega (arith, c .before .before .before .before .before .before .before .before .before .before .before)
 
 loop-less : tie.Need-loop-less Inv-loop μ-loop
 loop-less c =
-    let f = read-fits (c .before .before .before .before .before .before .before .before .before .loop .block) (c .before .before .before .before .before .before .read-some .last .1 .0) (c .before .before .before .before .before .before .before .before .before .loop .done) _ (c .before .before .before .before .before .before .read-some .result .length) (c .before .before .before .before .before .before .before .before .before .loop .inv .1) (c .before .before .before .before .before .before .before .before .before .loop .inv .0) (c .before .before .before .before .before .before .read-some .kept .1 .0) (c .before .before .before .before .before .before .read-some .ensures) in
+    let f = read-fits (c .before .before .before .before .before .before .before .before .before .loop .block) (c .before .before
+    .before .before .before .before .read-some .last .1 .0) (c .before .before .before .before .before .before .before .before
+    .before .loop .done) _ (c .before .before .before .before .before .before .read-some .result .length) (c .before .before .before
+    .before .before .before .before .before .before .loop .inv .1) (c .before .before .before .before .before .before .before
+    .before .before .loop .inv .0) (c .before .before .before .before .before .before .read-some .kept .1 .0) (c .before .before
+    .before .before .before .before .read-some .ensures) in
     omega (arith, c .before .if2 .left)
 
 loop-again : tie.Need-loop-again Inv-loop μ-loop
 loop-again c = (
-  read-fits (c .before .before .before .before .before .before .before .before .before .loop .block) (c .before .before .before .before .before .before .read-some .last .1 .0) (c .before .before .before .before .before .before .before .before .before .loop .done) _ (c .before .before .before .before .before .before .read-some .result .length) (c .before .before .before .before .before .before .before .before .before .loop .inv .1) (c .before .before .before .before .before .before .before .before .before .loop .inv .0) (c .before .before .before .before .before .before .read-some .kept .1 .0) (c .before .before .before .before .before .before .read-some .ensures),
-  read-length (c .before .before .before .before .before .before .before .before .before .loop .block) (c .before .before .before .before .before .before .read-some .last .1 .0) (c .before .before .before .before .before .before .before .before .before .loop .done) _ 0 (c .before .before .before .before .before .before .before .before .before .loop .inv .1) (c .before .before .before .before .before .before .before .before .before .loop .inv .0) (c .before .before .before .before .before .before .read-some .kept .1 .0),
+  read-fits (c .before .before .before .before .before .before .before .before .before .loop .block) (c .before .before .before .before
+      .before .before .read-some .last .1 .0) (c .before .before .before .before .before .before .before .before .before .loop .done) _
+      (c .before .before .before .before .before .before .read-some .result .length) (c .before .before .before .before .before .before
+      .before .before .before .loop .inv .1) (c .before .before .before .before .before .before .before .before .before .loop .inv .0)
+      (c .before .before .before .before .before .before .read-some .kept .1 .0) (c .before .before .before .before .before .before
+      .read-some .ensures),
+  read-length (c .before .before .before .before .before .before .before .before .before .loop .block) (c .before .before .before
+      .before .before .before .read-some .last .1 .0) (c .before .before .before .before .before .before .before .before .before .loop
+      .done) _ 0 (c .before .before .before .before .before .before .before .before .before .loop .inv .1) (c .before .before .before
+      .before .before .before .before .before .before .loop .inv .0) (c .before .before .before .before .before .before .read-some .kept
+      .1 .0),
   refl,
 )
 

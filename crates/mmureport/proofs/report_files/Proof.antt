@@ -22,20 +22,35 @@ sub-report-argument : tie.Need-sub-report-argument Inv-loop μ-loop
 sub-report-argument c = omega arith
 
 report-argument-requires : tie.Need-report-argument-requires Inv-loop μ-loop
-report-argument-requires c κs = c .before .before .before .before .loop .inv .3 ∙ c .before .before .before .before .before .before .before .before .before .pre
+report-argument-requires c κs = c .before .before .before .before .loop .inv .3 ∙ c .before .before .before .before .before .before
+    .before .before .before .pre
 
 next-requires : tie.Need-next-requires Inv-loop μ-loop
 next-requires c κs = c .before .before .before .before .before .before .before .before .before .before .loop-test .taken
 
 loop-less : tie.Need-loop-less Inv-loop μ-loop
-loop-less c = omega (arith, c .next .ensures .0, c .next .ensures .1, c .before .before .before .before .before .before .before .before .before .before .before .loop-test .taken)
+loop-less c = omega (
+  arith,
+  c .next .ensures .0,
+  c .next .ensures .1,
+  c .before .before .before .before .before .before .before .before
+      .before .before .before .loop-test .taken,
+)
 
 loop-again : tie.Need-loop-again Inv-loop μ-loop
 loop-again c = (
-  omega (arith, c .next .ensures .0, c .before .before .before .before .before .before .before .before .before .before .before .before .loop .inv .0),
-  c .before .before .before .before .before .before .path .given ∙ c .before .before .before .before .before .before .before .before .before .before .before .before .loop .inv .1,
-  c .before .before .before .before .block .given ∙ c .before .before .before .before .before .before .before .before .before .before .before .before .loop .inv .2,
-  c .before .before .out .given ∙ c .before .before .before .before .before .before .before .before .before .before .before .before .loop .inv .3,
+  omega (
+    arith,
+    c .next .ensures .0,
+    c .before .before .before .before .before .before .before .before .before .before .before .before
+        .loop .inv .0,
+  ),
+  c .before .before .before .before .before .before .path .given ∙ c .before .before .before .before .before .before .before .before
+      .before .before .before .before .loop .inv .1,
+  c .before .before .before .before .block .given ∙ c .before .before .before .before .before .before .before .before .before .before
+      .before .before .loop .inv .2,
+  c .before .before .out .given ∙ c .before .before .before .before .before .before .before .before .before .before .before .before
+      .loop .inv .3,
 )
 
 same-length : tie.Need-same-length Inv-loop μ-loop

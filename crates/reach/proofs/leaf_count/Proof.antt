@@ -2,7 +2,8 @@ use Prim.Native.Nat.{_-_}
 use native.Mathlib.Omega.{arith}
 use borrow.Author.Needs.{needs}
 use Rattle.reach.specs.Index.{tableCount}
-use Rattle.reach.proofs.PresentLaws.{Counted, counted-none, counted-more, counted-skip, counted-le, counted-all, index-inside, presents-le}
+use Rattle.reach.proofs.PresentLaws.{Counted, counted-none, counted-more, counted-skip}
+use Rattle.reach.proofs.PresentLaws.{counted-le, counted-all, index-inside, presents-le}
 use Rattle.reach.proofs.leaf_count.Statement.{statement}
 use Rattle.reach.proofs.leaf_count.Tie as tie
 
@@ -24,14 +25,16 @@ mul-if1 c = search needs
 
 shared-slice-read-if1 : tie.Need-shared-slice-read-if1 Inv-loop μ-loop
 unfolding tableCount
-shared-slice-read-if1 c = index-inside _ _ _ (c .before .before .before .pre .0) (c .before .before .before .pre .1) (c .before .before .loop .t) (omega arith) .0
+shared-slice-read-if1 c = index-inside _ _ _ (c .before .before .before .pre .0) (c .before .before .before .pre .1) (c .before .before
+    .loop .t) (omega arith) .0
 
 mul-leaves : tie.Need-mul-leaves Inv-loop μ-loop
 mul-leaves c = search needs
 
 shared-slice-read-leaves : tie.Need-shared-slice-read-leaves Inv-loop μ-loop
 unfolding tableCount
-shared-slice-read-leaves c = index-inside _ _ _ (c .before .before .before .before .before .pre .0) (c .before .before .before .before .before .pre .1) (c .before .before .before .before .loop .t) (omega arith) .1
+shared-slice-read-leaves c = index-inside _ _ _ (c .before .before .before .before .before .pre .0) (c .before .before .before .before
+    .before .pre .1) (c .before .before .before .before .loop .t) (omega arith) .1
 
 add-leaves : tie.Need-add-leaves Inv-loop μ-loop
 unfolding tableCount

@@ -30,25 +30,35 @@ mul-presents : tie.Need-mul-presents
 mul-presents c = search needs
 
 slice-read-presents : tie.Need-slice-read-presents
-slice-read-presents c = store-inside _ _ _ _ _ _ _ (c .before .before .before .before .before .before .pre .0) (c .before .before .before .before .before .before .pre .1) (c .before .before .before .before .before .before .pre .2) refl (c .before .before .is-present .ensures) (c .before .is-present2 .ensures)
+slice-read-presents c = store-inside _ _ _ _ _ _ _ (c .before .before .before .before .before .before .pre .0) (c .before .before
+    .before .before .before .before .pre .1) (c .before .before .before .before .before .before .pre .2) refl (c .before .before
+    .is-present .ensures) (c .before .is-present2 .ensures)
 
 add-presents : tie.Need-add-presents
-add-presents c = let f = store-fits _ _ _ _ _ _ _ (c .before .before .before .before .before .before .pre .0) (c .before .before .before .before .before .before .pre .1) (c .before .before .before .before .before .before .pre .2) refl (c .before .before .is-present .ensures) (c .before .is-present2 .ensures) in omega (arith, f .0)
+add-presents c = let f = store-fits _ _ _ _ _ _ _ (c .before .before .before .before .before .before .pre .0) (c .before .before .before
+    .before .before .before .pre .1) (c .before .before .before .before .before .before .pre .2) refl (c .before .before .is-present
+    .ensures) (c .before .is-present2 .ensures) in omega (arith, f .0)
 
 sub-presents : tie.Need-sub-presents
-sub-presents c = store-fits _ _ _ _ _ _ _ (c .before .before .before .before .before .before .pre .0) (c .before .before .before .before .before .before .pre .1) (c .before .before .before .before .before .before .pre .2) refl (c .before .before .is-present .ensures) (c .before .is-present2 .ensures) .1
+sub-presents c = store-fits _ _ _ _ _ _ _ (c .before .before .before .before .before .before .pre .0) (c .before .before .before .before
+    .before .before .pre .1) (c .before .before .before .before .before .before .pre .2) refl (c .before .before .is-present .ensures)
+    (c .before .is-present2 .ensures) .1
 
 mul-presents-2 : tie.Need-mul-presents-2
 mul-presents-2 c = search needs
 
 slice-write-presents : tie.Need-slice-write-presents
-slice-write-presents c = store-inside _ _ _ _ _ _ _ (c .before .before .before .before .before .before .pre .0) (c .before .before .before .before .before .before .pre .1) (c .before .before .before .before .before .before .pre .2) refl (c .before .before .is-present .ensures) (c .before .is-present2 .ensures)
+slice-write-presents c = store-inside _ _ _ _ _ _ _ (c .before .before .before .before .before .before .pre .0) (c .before .before
+    .before .before .before .before .pre .1) (c .before .before .before .before .before .before .pre .2) refl (c .before .before
+    .is-present .ensures) (c .before .is-present2 .ensures)
 
 same-length : tie.Need-same-length
 same-length c = search needs
 
 returns : tie.Need-returns
-returns c = store-recounts _ _ _ _ _ _ _ (c .before .before .before .before .before .before .pre .0) (c .before .before .before .before .before .before .pre .1) (c .before .before .before .before .before .before .pre .2) refl (c .before .before .is-present .ensures) (c .before .is-present2 .ensures)
+returns c = store-recounts _ _ _ _ _ _ _ (c .before .before .before .before .before .before .pre .0) (c .before .before .before .before
+    .before .before .pre .1) (c .before .before .before .before .before .before .pre .2) refl (c .before .before .is-present .ensures)
+    (c .before .is-present2 .ensures)
 
 pub recount-spec : {M : Type 1} → statement M
 recount-spec =

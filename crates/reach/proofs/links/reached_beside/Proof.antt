@@ -31,7 +31,8 @@ number-of-requires : tie.Need-number-of-requires Inv-loop μ-loop
 number-of-requires c κs = tt
 
 returns : tie.Need-returns Inv-loop μ-loop
-returns c = search-found _ _ _ _ _ _ _ refl (c .before .before .leads-on .ensures) (c .before .number-of .ensures) (omega arith) (c .if1 .taken)
+returns c = search-found _ _ _ _ _ _ _ refl (c .before .before .leads-on .ensures) (c .before .number-of .ensures) (omega arith) (c .if1
+    .taken)
 
 add-r : tie.Need-add-r Inv-loop μ-loop
 add-r c = omega arith
@@ -40,7 +41,8 @@ loop-less : tie.Need-loop-less Inv-loop μ-loop
 loop-less c = omega arith
 
 loop-again : tie.Need-loop-again Inv-loop μ-loop
-loop-again c = search-on _ _ _ _ _ _ _ refl (c .before .before .leads-on .ensures) (c .before .number-of .ensures) (c .before .before .before .before .before .loop .inv) (omega arith) (c .if1 .left)
+loop-again c = search-on _ _ _ _ _ _ _ refl (c .before .before .leads-on .ensures) (c .before .number-of .ensures) (c .before .before
+    .before .before .before .loop .inv) (omega arith) (c .if1 .left)
 
 returns-2 : tie.Need-returns-2 Inv-loop μ-loop
 returns-2 c = search-all _ _ _ _ (c .before .loop .inv) (omega arith)

@@ -27,7 +27,8 @@ shared-slice-read-word : tie.Need-shared-slice-read-word Inv-loop μ-loop
 shared-slice-read-word c = omega arith
 
 shift-requires : tie.Need-shift-requires Inv-loop μ-loop
-shift-requires c κs = shifted-fits _ _ _ _ _ _ _ (c .before .before .before .loop .inv) (c .before .before .before .before .before .before .pre .1) (omega arith) refl
+shift-requires c κs = shifted-fits _ _ _ _ _ _ _ (c .before .before .before .loop .inv) (c .before .before .before .before .before
+    .before .pre .1) (omega arith) refl
 
 add-k : tie.Need-add-k Inv-loop μ-loop
 add-k c = omega arith
@@ -36,7 +37,8 @@ loop-less : tie.Need-loop-less Inv-loop μ-loop
 loop-less c = omega arith
 
 loop-again : tie.Need-loop-again Inv-loop μ-loop
-loop-again c = shifted-more _ _ _ _ _ _ _ _ (c .before .before .before .before .before .before .loop .inv) (omega arith) refl (c .before .before .shift .ensures)
+loop-again c = shifted-more _ _ _ _ _ _ _ _ (c .before .before .before .before .before .before .loop .inv) (omega arith) refl (c .before
+    .before .shift .ensures)
 
 same-length : tie.Need-same-length Inv-loop μ-loop
 same-length c = c .before .loop .inv .long

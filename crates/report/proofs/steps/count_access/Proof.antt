@@ -19,7 +19,8 @@ same-length-3 : tie.Need-same-length-3
 same-length-3 c = search needs
 
 returns : tie.Need-returns
-returns c = access-counts _ _ _ _ _ _ _ _ (c .before .before .before .before .before .before .before .before .step .ensures) (c .before .before .book-access .ensures)
+returns c = access-counts _ _ _ _ _ _ _ _ (c .before .before .before .before .before .before .before .before .step .ensures) (c .before
+    .before .book-access .ensures)
 
 pub count-access-spec : {M : Type 1} → statement M
 count-access-spec =

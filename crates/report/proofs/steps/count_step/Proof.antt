@@ -37,7 +37,9 @@ same-length-3 : tie.Need-same-length-3
 same-length-3 c = search needs
 
 returns : tie.Need-returns
-returns c = step-access _ _ _ _ _ (c .before .before .before .before .before .before .before .before .before .before .before .before .before .before .before .before .pre .3) _ _ _ _ _ (c .before .before .before .before .before .before .before .before .before .before .command .given .1) (c .before .before .before .before .before .count-access .ensures)
+returns c = step-access _ _ _ _ _ (c .before .before .before .before .before .before .before .before .before .before .before .before
+    .before .before .before .before .pre .3) _ _ _ _ _ (c .before .before .before .before .before .before .before .before .before
+    .before .command .given .1) (c .before .before .before .before .before .count-access .ensures)
 
 same-length-4 : tie.Need-same-length-4
 same-length-4 c = search needs
@@ -55,7 +57,9 @@ same-length-8 : tie.Need-same-length-8
 same-length-8 c = search needs
 
 returns-2 : tie.Need-returns-2
-returns-2 c = step-store _ _ _ _ _ _ _ _ _ _ _ (c .before .before .before .before .before .before .before .before .before .before .before .before .before .before .before .before .command2 .given .1) (c .before .before .before .before .before .before .before .before .before .count-store .ensures)
+returns-2 c = step-store _ _ _ _ _ _ _ _ _ _ _ (c .before .before .before .before .before .before .before .before .before .before
+    .before .before .before .before .before .before .command2 .given .1) (c .before .before .before .before .before .before .before
+    .before .before .count-store .ensures)
 
 same-length-9 : tie.Need-same-length-9
 same-length-9 c = search needs
@@ -64,7 +68,10 @@ same-length-10 : tie.Need-same-length-10
 same-length-10 c = search needs
 
 returns-3 : tie.Need-returns-3
-returns-3 c = step-set _ _ _ _ _ (c .before .before .before .before .before .before .before .before .before .before .before .before .before .pre .3) _ _ _ _ _ (c .before .before .before .before .before .before .before .enum-told .given .1) (c .before .before .before .before .before .before .before .before .before .before .before .before .before .pre .1) (c .before .before .before .before .count-plain .ensures)
+returns-3 c = step-set _ _ _ _ _ (c .before .before .before .before .before .before .before .before .before .before .before .before
+    .before .pre .3) _ _ _ _ _ (c .before .before .before .before .before .before .before .enum-told .given .1) (c .before .before
+    .before .before .before .before .before .before .before .before .before .before .before .pre .1) (c .before .before .before .before
+    .count-plain .ensures)
 
 same-length-11 : tie.Need-same-length-11
 same-length-11 c = search needs
@@ -73,7 +80,10 @@ same-length-12 : tie.Need-same-length-12
 same-length-12 c = search needs
 
 returns-4 : tie.Need-returns-4
-returns-4 c = step-malformed _ _ _ _ _ (c .before .before .before .before .before .before .before .before .before .before .before .before .before .pre .3) _ _ _ (c .before .before .before .before .before .before .before .enum-told2 .given .1) (c .before .before .before .before .before .before .before .before .before .before .before .before .before .pre .1) (c .before .before .before .before .count-plain2 .ensures)
+returns-4 c = step-malformed _ _ _ _ _ (c .before .before .before .before .before .before .before .before .before .before .before
+    .before .before .pre .3) _ _ _ (c .before .before .before .before .before .before .before .enum-told2 .given .1) (c .before .before
+    .before .before .before .before .before .before .before .before .before .before .before .pre .1) (c .before .before .before .before
+    .count-plain2 .ensures)
 
 pub count-step-spec : {M : Type 1} → statement M
 count-step-spec =

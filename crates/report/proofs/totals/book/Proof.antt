@@ -24,7 +24,8 @@ slice-copy-out-old c = search needs
 
 add-total : tie.Need-add-total
 add-total c =
-    let a = c .before .before .args in book-fits (a .id) (a .column) (a .amount) (a .totals .now) (c .before .before .pre .1) (c .before .before .pre .3)
+    let a = c .before .before .args in book-fits (a .id) (a .column) (a .amount) (a .totals .now) (c .before .before .pre .1) (c .before
+    .before .pre .3)
 
 mul-total : tie.Need-mul-total
 mul-total c = search needs
@@ -41,7 +42,9 @@ same-length c = search needs
 returns-2 : tie.Need-returns-2
 returns-2 c =
     let a = c .before .before .before .args in
-    book-done (a .id) (a .column) (a .amount) (a .totals .now) (c .before .before .before .pre .1) (c .before .before .before .pre .3) _ _ refl (c .is-within .ensures) (c .before .before .before .pre .0) (c .before .before .before .pre .2) (c .before .before .if1 .left)
+    book-done (a .id) (a .column) (a .amount) (a .totals .now) (c .before .before .before .pre .1) (c .before .before .before .pre .3) _
+    _ refl (c .is-within .ensures) (c .before .before .before .pre .0) (c .before .before .before .pre .2) (c .before .before .if1
+    .left)
 
 pub book-spec : {M : Type 1} → statement M
 book-spec =

@@ -21,45 +21,83 @@ add-count : tie.Need-add-count Inv-loop μ-loop
 add-count c = omega arith
 
 loop-holds : tie.Need-loop-holds Inv-loop μ-loop
-loop-holds c = (replayed-none _ _ _ _ _ _ (c .before .before .before .before .before .pre .3) (c .before .before .before .before .before .pre .1), refl, refl, refl)
+loop-holds c = (
+  replayed-none _ _ _ _ _ _ (c .before .before .before .before .before .pre .3) (c .before .before .before .before .before
+      .pre .1),
+  refl,
+  refl,
+  refl,
+)
 
 command-at-requires : tie.Need-command-at-requires Inv-loop μ-loop
 command-at-requires c κs = tt
 
 count-step-requires : tie.Need-count-step-requires Inv-loop μ-loop
-count-step-requires c κs = replay-fits _ _ _ _ _ _ _ _ _ (c .before .before .before .before .before .before .before .loop .inv .0) (c .before .before .before .before .before .before .before .before .before .before .before .before .before .pre .0) (c .before .before .before .before .before .before .before .before .before .before .before .before .before .pre .2)
+count-step-requires c κs = replay-fits _ _ _ _ _ _ _ _ _ (c .before .before .before .before .before .before .before .loop .inv .0) (c
+    .before .before .before .before .before .before .before .before .before .before .before .before .before .pre .0) (c .before .before
+    .before .before .before .before .before .before .before .before .before .before .before .pre .2)
 
 same-length : tie.Need-same-length Inv-loop μ-loop
-same-length c = c .before .before .before .before .before .before .before .before .before .before .before .buffer .given ∙ c .before .before .before .before .before .before .before .before .before .before .before .before .before .before .before .before .before .before .before .before .loop .inv .1
+same-length c = c .before .before .before .before .before .before .before .before .before .before .before .buffer .given ∙ c .before
+    .before .before .before .before .before .before .before .before .before .before .before .before .before .before .before .before
+    .before .before .before .loop .inv .1
 
 same-length-2 : tie.Need-same-length-2 Inv-loop μ-loop
-same-length-2 c = c .before .before .before .before .before .before .before .before .before .words .given ∙ c .before .before .before .before .before .before .before .before .before .before .before .before .before .before .before .before .before .before .before .before .loop .inv .0 .wide
+same-length-2 c = c .before .before .before .before .before .before .before .before .before .words .given ∙ c .before .before .before
+    .before .before .before .before .before .before .before .before .before .before .before .before .before .before .before .before
+    .before .loop .inv .0 .wide
 
 same-length-3 : tie.Need-same-length-3 Inv-loop μ-loop
-same-length-3 c = c .before .before .before .before .before .before .before .links .given ∙ c .before .before .before .before .before .before .before .before .before .before .before .before .before .before .before .before .before .before .before .before .loop .inv .2
+same-length-3 c = c .before .before .before .before .before .before .before .links .given ∙ c .before .before .before .before .before
+    .before .before .before .before .before .before .before .before .before .before .before .before .before .before .before .loop .inv
+    .2
 
 same-length-4 : tie.Need-same-length-4 Inv-loop μ-loop
-same-length-4 c = c .before .before .before .before .before .presents .given ∙ c .before .before .before .before .before .before .before .before .before .before .before .before .before .before .before .before .before .before .before .before .loop .inv .3
+same-length-4 c = c .before .before .before .before .before .presents .given ∙ c .before .before .before .before .before .before .before
+    .before .before .before .before .before .before .before .before .before .before .before .before .before .loop .inv .3
 
 same-length-5 : tie.Need-same-length-5 Inv-loop μ-loop
-same-length-5 c = c .before .before .before .totals .given ∙ c .before .before .before .before .before .before .before .before .before .before .before .before .before .before .before .before .before .before .before .before .loop .inv .0 .long
+same-length-5 c = c .before .before .before .totals .given ∙ c .before .before .before .before .before .before .before .before .before
+    .before .before .before .before .before .before .before .before .before .before .before .loop .inv .0 .long
 
 returns : tie.Need-returns Inv-loop μ-loop
 unfolding recordCount
-returns c = replayed-stop _ _ _ _ _ _ _ _ _ (c .before .before .before .before .before .before .before .before .before .before .before .before .before .before .before .before .before .before .before .before .loop .inv .0) (c .before .before .before .before .before .before .before .before .before .before .before .before .before .before .before .before .before .before .before .loop-test .taken) _ (c .before .before .before .before .before .before .before .before .before .before .before .before .before .before .before .before .before .before .command-at .ensures) _ _ _ _ _ _ (c .before .before .before .before .before .before .before .before .before .before .before .before .count-step .ensures) (c .if1 .taken) refl
+returns c = replayed-stop _ _ _ _ _ _ _ _ _ (c .before .before .before .before .before .before .before .before .before .before .before
+    .before .before .before .before .before .before .before .before .before .loop .inv .0) (c .before .before .before .before .before
+    .before .before .before .before .before .before .before .before .before .before .before .before .before .before .loop-test .taken) _
+    (c .before .before .before .before .before .before .before .before .before .before .before .before .before .before .before .before
+    .before .before .command-at .ensures) _ _ _ _ _ _ (c .before .before .before .before .before .before .before .before .before .before
+    .before .before .count-step .ensures) (c .if1 .taken) refl
 
 add-i : tie.Need-add-i Inv-loop μ-loop
-add-i c = omega (arith, c .before .before .before .before .before .before .before .before .before .before .before .before .before .before .before .before .before .before .before .loop-test .taken, c .before .before .before .before .before .before .before .before .before .before .before .before .before .before .before .before .before .before .before .before .before .before .before .before .before .before)
+add-i c = omega (
+  arith,
+  c .before .before .before .before .before .before .before .before .before .before .before .before .before
+      .before .before .before .before .before .before .loop-test .taken,
+  c .before .before .before .before .before .before .before .before
+      .before .before .before .before .before .before .before .before .before .before .before .before .before .before .before .before
+      .before .before,
+)
 
 loop-less : tie.Need-loop-less Inv-loop μ-loop
 loop-less c = omega arith
 
 loop-again : tie.Need-loop-again Inv-loop μ-loop
 loop-again c = (
-  replayed-more _ _ _ _ _ _ _ _ _ (c .before .before .before .before .before .before .before .before .before .before .before .before .before .before .before .before .before .before .before .before .loop .inv .0) (c .before .before .before .before .before .before .before .before .before .before .before .before .before .before .before .before .before .before .before .loop-test .taken) _ (c .before .before .before .before .before .before .before .before .before .before .before .before .before .before .before .before .before .before .command-at .ensures) _ _ _ _ _ _ (c .before .before .before .before .before .before .before .before .before .before .before .before .count-step .ensures) (c .if1 .left) (c .before .before .before .totals .given) (c .before .before .before .before .before .before .before .before .before .words .given),
-  c .before .before .before .before .before .before .before .before .before .before .before .buffer .given ∙ c .before .before .before .before .before .before .before .before .before .before .before .before .before .before .before .before .before .before .before .before .loop .inv .1,
-  c .before .before .before .before .before .before .before .links .given ∙ c .before .before .before .before .before .before .before .before .before .before .before .before .before .before .before .before .before .before .before .before .loop .inv .2,
-  c .before .before .before .before .before .presents .given ∙ c .before .before .before .before .before .before .before .before .before .before .before .before .before .before .before .before .before .before .before .before .loop .inv .3,
+  replayed-more _ _ _ _ _ _ _ _ _ (c .before .before .before .before .before .before .before .before .before .before .before .before
+      .before .before .before .before .before .before .before .before .loop .inv .0) (c .before .before .before .before .before .before
+      .before .before .before .before .before .before .before .before .before .before .before .before .before .loop-test .taken) _ (c
+      .before .before .before .before .before .before .before .before .before .before .before .before .before .before .before .before
+      .before .before .command-at .ensures) _ _ _ _ _ _ (c .before .before .before .before .before .before .before .before .before
+      .before .before .before .count-step .ensures) (c .if1 .left) (c .before .before .before .totals .given) (c .before .before .before
+      .before .before .before .before .before .before .words .given),
+  c .before .before .before .before .before .before .before .before .before .before .before .buffer .given ∙ c .before .before .before
+      .before .before .before .before .before .before .before .before .before .before .before .before .before .before .before .before
+      .before .loop .inv .1,
+  c .before .before .before .before .before .before .before .links .given ∙ c .before .before .before .before .before .before .before
+      .before .before .before .before .before .before .before .before .before .before .before .before .before .loop .inv .2,
+  c .before .before .before .before .before .presents .given ∙ c .before .before .before .before .before .before .before .before .before
+      .before .before .before .before .before .before .before .before .before .before .before .loop .inv .3,
 )
 
 same-length-6 : tie.Need-same-length-6 Inv-loop μ-loop
