@@ -76,7 +76,8 @@ fn after_block(registers: Registers, more: bool, ending: Ending) -> After
     }
 }
 
-// Reads a block and counts its records. A block that is not full is the last one.
+// Reads a block and counts its records. A total that passes the limit stops the file before a read that failed behind it can. A block that
+// is not full is the last one.
 fn count_block(
     fd: i32,
     r: Registers,
@@ -91,14 +92,14 @@ fn count_block(
     ensures { λ a. ⌜ (a .more ≡ true → Ready (now (words .exit)) (now (links .exit)) (now (presents .exit)) (now (totals .exit))) ⌝ }
 {
     let read = fill(fd, block);
-    if read.failed {
-        return after_block(r, false, Ending::Unread);
-    }
     let got = read.length;
     let counted = report::run(r, buffer, words, links, presents, totals, &block[..got]);
     let registers = counted.registers;
     if !counted.fits {
         return after_block(registers, false, Ending::Refused);
+    }
+    if read.failed {
+        return after_block(registers, false, Ending::Unread);
     }
     after_block(registers, got == FULL, Ending::Whole)
 }
