@@ -1,13 +1,14 @@
 // Reports over traces: replays each file that the arguments name, and writes its lines to standard output.
-ghost use mathlib.Core.Bool.{true};
 ghost use mathlib.Core.Path.{_≡_};
 ghost use Prim.Native.Nat.{_≤_, _<_};
-ghost use lib.ListN.{length};
-ghost use Rattle.mmureport.specs.Ready.{Ready};
+ghost use lib.ListN.{length, take};
+ghost use Rattle.slots.specs.Buffer.{Buffer};
+ghost use Rattle.line.specs.Text.{TextPut};
+ghost use Rattle.trace.specs.Commands.{commandsOf};
+ghost use Rattle.report.specs.Ready.{Ready};
+ghost use Rattle.report.specs.Tallies.{CountGives, tallyOf};
+ghost use Rattle.mmureport.specs.Endings.{endingOf, endingText};
 use registers::Registers;
-
-// A block has 8,192 records.
-const FULL: usize = 65536;
 
 // How a file ended: it could not be read to its end, a total passed the limit, or it was counted whole.
 enum Ending {
@@ -16,68 +17,70 @@ enum Ending {
     Whole,
 }
 
-// What a read has put at the start of a block, and whether it failed.
-struct Block {
+fn ending_of(fits: bool, failed: bool) -> Ending
+    ensures { λ e. ⌜ e ≡ endingOf fits failed ⌝ }
+{
+    if !fits {
+        return Ending::Refused;
+    }
+    if failed {
+        return Ending::Unread;
+    }
+    Ending::Whole
+}
+
+// How many bytes were read, and whether a read failed.
+struct Read {
     length: usize,
     failed: bool,
 }
 
-fn block_of(length: usize, failed: bool) -> Block
-    ensures { λ b. ⌜ b .length ≡ length ⌝ }
+fn after_read(length: usize, failed: bool) -> Read
+    ensures { λ r. ⌜ r .length ≡ length ⌝ }
 {
-    Block { length, failed }
+    Read { length, failed }
 }
 
 // Reads once.
-fn read_some(fd: i32, part: &mut [u8]) -> Block
-    ensures { λ b. ⌜ b .length ≤ length (now (part .exit)) ⌝ }
+fn read_some(fd: i32, part: &mut [u8]) -> Read
+    ensures { λ r. ⌜ r .length ≤ length (now (part .exit)) ⌝ }
 {
     let got = libc::read(fd, part);
     if got < 0 {
-        return block_of(0, true);
+        return after_read(0, true);
     }
     let n = io::count(got, part);
-    block_of(n, false)
+    after_read(n, false)
 }
 
 // Reads until the block is full, the file ends or a read fails.
-fn fill(fd: i32, block: &mut [u8]) -> Block
-    ensures { λ b. ⌜ b .length ≤ length (now (block .exit)) ⌝ }
+fn fill(fd: i32, block: &mut [u8]) -> Read
+    ensures { λ r. ⌜ r .length ≤ length (now (block .exit)) ⌝ }
 {
     let n = block.len();
     let mut done: usize = 0;
     while done < n {
         let more = read_some(fd, &mut block[done..n]);
         if more.failed {
-            return block_of(done, true);
+            return after_read(done, true);
         }
         if more.length == 0 {
-            return block_of(done, false);
+            return after_read(done, false);
         }
         done += more.length;
     }
-    block_of(done, false)
+    after_read(done, false)
 }
 
-// After a block: the registers, whether the file goes on, and how it ends if not.
-struct After {
+// After a block: the registers, whether every total is within the limit, how many bytes it has, and whether a read failed.
+struct Block {
     registers: Registers,
-    more: bool,
-    ending: Ending,
+    fits: bool,
+    length: usize,
+    failed: bool,
 }
 
-fn after_block(registers: Registers, more: bool, ending: Ending) -> After
-    ensures { λ a. ⌜ a .more ≡ more ⌝ }
-{
-    After {
-        registers,
-        more,
-        ending,
-    }
-}
-
-// Reads a block and counts its records. A total that passes the limit stops the file before a read that failed behind it can. A block that
-// is not full is the last one.
+// Reads a block and counts its records.
 fn count_block(
     fd: i32,
     r: Registers,
@@ -87,24 +90,28 @@ fn count_block(
     presents: &mut [u32],
     totals: &mut [i64],
     block: &mut [u8],
-) -> After
+) -> Block
     requires { ⌜ Ready (now words) (now links) (now presents) (now totals) ⌝ }
-    ensures { λ a. ⌜ (a .more ≡ true → Ready (now (words .exit)) (now (links .exit)) (now (presents .exit)) (now (totals .exit))) ⌝ }
+    ensures { λ b. ⌜ CountGives
+        (tallyOf (record { registers = r; buffer = Buffer.Wide (now (buffer .entry)); words = now (words .entry) })
+        (now (totals .entry)) (commandsOf (take (b .length) (now (block .exit)))))
+        (record { registers = b .registers; fits = b .fits })
+        (Buffer.Wide (now (buffer .exit))) (now (words .exit)) (now (links .exit)) (now (presents .exit)) (now (totals .exit)) ⌝ }
 {
     let read = fill(fd, block);
-    let got = read.length;
-    let counted = report::run(r, buffer, words, links, presents, totals, &block[..got]);
+    let length = read.length;
+    let counted = report::run(r, buffer, words, links, presents, totals, &block[..length]);
     let registers = counted.registers;
-    if !counted.fits {
-        return after_block(registers, false, Ending::Refused);
+    Block {
+        registers,
+        fits: counted.fits,
+        length,
+        failed: read.failed,
     }
-    if read.failed {
-        return after_block(registers, false, Ending::Unread);
-    }
-    after_block(registers, got == FULL, Ending::Whole)
 }
 
-// Replays a file from a state on. A proved loop has to end, and nothing says that the file does: it counts its blocks down.
+// Replays a file from a state on. A block that is not full is the last one. A proved loop has to end, and nothing says that the file does:
+// it counts its blocks down.
 fn replay(
     fd: i32,
     r: Registers,
@@ -117,13 +124,15 @@ fn replay(
 ) -> Ending
     requires { ⌜ Ready (now words) (now links) (now presents) (now totals) ⌝ }
 {
+    let full = block.len();
     let mut registers = r;
     let mut left = u64::MAX;
     while 0 < left {
         let done = count_block(fd, registers, buffer, words, links, presents, totals, block);
-        let ending = done.ending;
-        if !done.more {
-            return ending;
+        let fits = done.fits;
+        let failed = done.failed;
+        if !(fits & !failed & (done.length == full)) {
+            return ending_of(fits, failed);
         }
         registers = done.registers;
         left -= 1;
@@ -151,7 +160,8 @@ fn count_file(
 // Writes the lines of a file by its ending.
 fn put_ending(out: &mut [u8], number: u64, totals: &[i64], ending: Ending) -> usize
     requires { ⌜ (length (now out) ≡ 20480) × (length (now totals) ≡ 882) ⌝ }
-    ensures { λ n. ⌜ n ≤ length (now (out .exit)) ⌝ }
+    ensures text { λ n. ⌜ TextPut (now (out .entry)) 0 (endingText number (now (totals .entry)) ending) n (now (out .exit)) ⌝ }
+    ensures room { λ n. ⌜ n ≤ length (now (out .exit)) ⌝ }
 {
     match ending {
         Ending::Unread => rows::put_unread(out, number),
@@ -160,8 +170,8 @@ fn put_ending(out: &mut [u8], number: u64, totals: &[i64], ending: Ending) -> us
     }
 }
 
-// Counts a file and writes its lines.
-fn report_open(
+// Counts an open file and puts its lines into the output.
+fn put_lines(
     fd: i32,
     number: u64,
     buffer: &mut [u64],
@@ -180,8 +190,8 @@ fn report_open(
     put_ending(out, number, totals, ending)
 }
 
-// Counts an open file, with a buffer, tables and totals of its own.
-fn count_open(fd: i32, number: u64, block: &mut [u8], out: &mut [u8]) -> usize
+// The same, with a buffer, tables and totals of the file's own.
+fn put_file(fd: i32, number: u64, block: &mut [u8], out: &mut [u8]) -> usize
     requires { ⌜ length (now out) ≡ 20480 ⌝ }
     ensures { λ n. ⌜ n ≤ length (now (out .exit)) ⌝ }
 {
@@ -190,7 +200,7 @@ fn count_open(fd: i32, number: u64, block: &mut [u8], out: &mut [u8]) -> usize
     let mut links = [0u32; 16];
     let mut presents = [0u32; 16];
     let mut totals = [0i64; 882];
-    report_open(
+    put_lines(
         fd,
         number,
         &mut buffer,
@@ -203,8 +213,8 @@ fn count_open(fd: i32, number: u64, block: &mut [u8], out: &mut [u8]) -> usize
     )
 }
 
-// Opens and counts a file; one that can't be opened is unread.
-fn report_file(path: &[u8], number: u64, block: &mut [u8], out: &mut [u8]) -> usize
+// Opens a file, and puts its lines into the output; one that can't be opened is unread.
+fn put_named(path: &[u8], number: u64, block: &mut [u8], out: &mut [u8]) -> usize
     requires { ⌜ length (now out) ≡ 20480 ⌝ }
     ensures { λ n. ⌜ n ≤ length (now (out .exit)) ⌝ }
 {
@@ -212,17 +222,17 @@ fn report_file(path: &[u8], number: u64, block: &mut [u8], out: &mut [u8]) -> us
     if fd < 0 {
         return rows::put_unread(out, number);
     }
-    let n = count_open(fd, number, block, out);
+    let n = put_file(fd, number, block, out);
     libc::close(fd);
     n
 }
 
 // Writes the lines of the file that an argument names, and answers whether they could be written.
-fn report_argument(i: usize, number: u64, path: &mut [u8], block: &mut [u8], out: &mut [u8]) -> bool
+fn write_lines(i: usize, number: u64, path: &mut [u8], block: &mut [u8], out: &mut [u8]) -> bool
     requires { ⌜ length (now out) ≡ 20480 ⌝ }
 {
     let length = os::arg(i, path);
-    let n = report_file(&path[..length], number, block, out);
+    let n = put_named(&path[..length], number, block, out);
     io::write_all(1, &out[..n])
 }
 
@@ -241,7 +251,7 @@ fn report_files(path: &mut [u8], block: &mut [u8], out: &mut [u8])
     let count = os::arg_count();
     let mut i: usize = 1;
     while i < count {
-        let written = report_argument(i, i as u64 - 1, path, block, out);
+        let written = write_lines(i, i as u64 - 1, path, block, out);
         i = next(i, count, written);
     }
 }

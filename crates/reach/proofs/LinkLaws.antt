@@ -21,7 +21,8 @@ use Rattle.page_table.specs.Stretches.{stretchSize, broken}
 use Rattle.page_table.specs.Reads.{leadsOn}
 use Rattle.page_table.proofs.Stretches.{sound-inside}
 use Rattle.reach.specs.Reach.{leadsTo, linksTo}
-use Rattle.reach.specs.Index.{tableCount, linksFrom, stepped, Steps, relinked, relinkedFirst, Relinks, RelinksAll}
+use Rattle.reach.specs.Index.{tableCount, linksFrom}
+use Rattle.reach.specs.Relinking.{stepped, Steps, relinked, relinkedFirst, Relinks, RelinksAll}
 use Rattle.reach.proofs.LeafLaws.{leads-to}
 
 -- the links by their entries

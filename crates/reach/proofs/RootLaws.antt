@@ -17,7 +17,8 @@ use Rattle.page_table.specs.Stretches.{tablesFit, stretchSize, broken, inside}
 use Rattle.page_table.specs.Reads.{leadsOn}
 use Rattle.page_table.proofs.Stretches.{fit-bounds}
 use Rattle.reach.specs.Reach.{leadsTo, linksTo}
-use Rattle.reach.specs.Index.{linksFrom, reachedBeside, reachedWith, rootLinks, relinkedFirst, RelinksAll}
+use Rattle.reach.specs.Index.{linksFrom}
+use Rattle.reach.specs.Relinking.{reachedBeside, reachedWith, rootLinks, relinkedFirst, RelinksAll}
 use Rattle.reach.proofs.LeafLaws.{leads-number}
 use Rattle.reach.proofs.LinkLaws.{links-same, leads-fits, passing, first-links, first-fits, passing-none, passing-all}
 

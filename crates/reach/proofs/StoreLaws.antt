@@ -16,7 +16,8 @@ use Rattle.page_table.specs.Stretches.{tablesFit}
 use Rattle.page_table.specs.Reads.{leadsOn}
 use Rattle.page_table.proofs.Stretches.{fit-bounds}
 use Rattle.reach.specs.Reach.{leadsTo, directoryReached, linksTo}
-use Rattle.reach.specs.Index.{linksFrom, linksOf, reachedBeside, reachedWith, rootLinks, relinked, Relinks}
+use Rattle.reach.specs.Index.{linksFrom, linksOf}
+use Rattle.reach.specs.Relinking.{reachedBeside, reachedWith, rootLinks, relinked, Relinks}
 use Rattle.reach.proofs.LinkLaws.{links-same, links-toggle, toggle-fits}
 use Rattle.reach.proofs.RootLaws.{with-zero}
 

@@ -1,3 +1,4 @@
 pub mod Reach
 pub mod Leaves
 pub mod Index
+pub mod Relinking

@@ -55,7 +55,7 @@ fn relink(words: &[u32], links: &mut [u32], index: u32, old: u32)
     if !(page_table::leads_on(length, 0, old) | page_table::leads_on(length, 0, word)) {
         return;
     }
-    // No root is left out.
+    // 64 is no root: all of them count.
     if links::reached_beside(words, 64, index / 512) {
         links::shift(links, length, old, false);
         links::shift(links, length, word, true);

@@ -4,9 +4,9 @@ ghost use mathlib.Core.Path.{_≡_};
 ghost use Prim.Native.Nat.{_+_, _*_, _≤_, _<_};
 ghost use lib.ListN.{length};
 ghost use Rattle.page_table.specs.Stretches.{tablesFit};
-ghost use Rattle.reach.specs.Index.{Steps, Relinks, RelinksAll, reachedBeside, relinked, relinkedFirst, rootLinks, stepped};
+ghost use Rattle.reach.specs.Relinking.{Steps, Relinks, RelinksAll, reachedBeside, relinked, relinkedFirst, rootLinks, stepped};
 
-// Whether a root other than one leads on to a directory.
+// Whether a root other than `root` leads on to a directory.
 pub(crate) fn reached_beside(words: &[u32], root: u32, directory: u32) -> bool
     requires { ⌜ tablesFit (now words) ≡ true ⌝ }
     ensures { λ b. ⌜ b ≡ reachedBeside (now (words .entry)) root directory ⌝ }

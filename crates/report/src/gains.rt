@@ -24,6 +24,7 @@ fn has_column(value: u32) -> bool
     ((1 <= value) & (value <= 8)) | (value == 16) | (value == 32)
 }
 
+// The column of such a value.
 fn fault_column(value: u32) -> u32
     ensures { λ r. ⌜ r ≡ faultColumn value ⌝ }
 {
@@ -36,18 +37,20 @@ fn fault_column(value: u32) -> u32
     11
 }
 
+// The number as a signed one.
 fn wide(n: u32) -> i64
     ensures { λ z. ⌜ z ≡ pos n ⌝ }
 {
     n as i64
 }
 
+// The first number minus the second, which may be below zero.
 fn difference(a: u32, b: u32) -> i64
     ensures { λ z. ⌜ z ≡ pos a -ℤ pos b ⌝ }
 {
-    let more = a as i64;
-    let fewer = b as i64;
-    more - fewer
+    let first = a as i64;
+    let second = b as i64;
+    first - second
 }
 
 // An accepted access counts once, with its loads.

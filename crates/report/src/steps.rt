@@ -1,11 +1,9 @@
 // A record's step, with what it gives to the totals of the identification under which it is made.
-ghost use mathlib.Core.Bool.{true};
 ghost use mathlib.Core.Path.{_≡_};
 ghost use lib.ListN.{getD, length};
-ghost use Rattle.page_table.specs.Stretches.{tablesFit};
 ghost use Rattle.slots.specs.Buffer.{Buffer};
-ghost use Rattle.reach.specs.Index.{Indexes};
 ghost use Rattle.trace.specs.declared.Command.{Command as Asked};
+ghost use Rattle.report.specs.Ready.{Ready};
 ghost use Rattle.report.specs.Tallies.{AccessCounts, CountGives, PlainGives, tallyStep};
 ghost use Rattle.report.specs.Totals.{AllWithin};
 use crate::Counted;
@@ -17,7 +15,7 @@ use registers::Registers;
 use trace::Command;
 
 // The word at an index, or 0 where the run has none.
-fn word_at(words: &[u32], index: u32) -> u32
+fn word_or_zero(words: &[u32], index: u32) -> u32
     ensures { λ w. ⌜ w ≡ getD (now (words .entry)) index 0 ⌝ }
 {
     if words.len() <= index as usize {
@@ -59,8 +57,7 @@ fn count_store(
     index: u32,
     value: u32,
 ) -> Counted
-    requires { ⌜ (length (now totals) ≡ 882) × AllWithin (now totals) × (tablesFit (now words) ≡ true)
-        × Indexes (now words) (now links) (now presents) ⌝ }
+    requires { ⌜ Ready (now words) (now links) (now presents) (now totals) ⌝ }
     ensures { λ s. ⌜ CountGives
         (tallyStep (record { registers = r; buffer = Buffer.Wide (now (buffer .entry)); words = now (words .entry) })
         (now (totals .entry)) (Asked.Store index value))
@@ -68,7 +65,7 @@ fn count_store(
 {
     let context = r.context;
     let before = reach::leaf_count(words, links, presents);
-    let old = word_at(words, index);
+    let old = word_or_zero(words, index);
     let reply = trace::step(r, buffer, words, Command::Store(index, value));
     let outcome = reply.outcome;
     let registers = reply.registers;
@@ -108,8 +105,7 @@ pub(crate) fn count_step(
     totals: &mut [i64],
     command: Command,
 ) -> Counted
-    requires { ⌜ (length (now totals) ≡ 882) × AllWithin (now totals) × (tablesFit (now words) ≡ true)
-        × Indexes (now words) (now links) (now presents) ⌝ }
+    requires { ⌜ Ready (now words) (now links) (now presents) (now totals) ⌝ }
     ensures { λ s. ⌜ CountGives
         (tallyStep (record { registers = r; buffer = Buffer.Wide (now (buffer .entry)); words = now (words .entry) })
         (now (totals .entry)) command)

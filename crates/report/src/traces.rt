@@ -1,13 +1,8 @@
 // A run of records, replayed for the totals.
-ghost use mathlib.Core.Bool.{true};
-ghost use mathlib.Core.Path.{_≡_};
-ghost use lib.ListN.{length};
-ghost use Rattle.page_table.specs.Stretches.{tablesFit};
 ghost use Rattle.slots.specs.Buffer.{Buffer};
-ghost use Rattle.reach.specs.Index.{Indexes};
 ghost use Rattle.trace.specs.Commands.{commandsOf};
 ghost use Rattle.report.specs.Tallies.{CountGives, tallyOf};
-ghost use Rattle.report.specs.Totals.{AllWithin};
+ghost use Rattle.report.specs.Ready.{Ready};
 use crate::Counted;
 use crate::steps::count_step;
 use registers::Registers;
@@ -23,8 +18,7 @@ pub fn run(
     totals: &mut [i64],
     input: &[u8],
 ) -> Counted
-    requires { ⌜ (length (now totals) ≡ 882) × AllWithin (now totals) × (tablesFit (now words) ≡ true)
-        × Indexes (now words) (now links) (now presents) ⌝ }
+    requires { ⌜ Ready (now words) (now links) (now presents) (now totals) ⌝ }
     ensures { λ s. ⌜ CountGives
         (tallyOf (record { registers = r; buffer = Buffer.Wide (now (buffer .entry)); words = now (words .entry) })
         (now (totals .entry)) (commandsOf (now (input .entry))))

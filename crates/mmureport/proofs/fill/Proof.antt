@@ -27,8 +27,8 @@ part-read-some-end c = omega arith
 read-some-requires : tie.Need-read-some-requires Inv-loop μ-loop
 read-some-requires c κs = tt
 
-block-of-requires : tie.Need-block-of-requires Inv-loop μ-loop
-block-of-requires c κs = tt
+after-read-requires : tie.Need-after-read-requires Inv-loop μ-loop
+after-read-requires c κs = tt
 
 same-length : tie.Need-same-length Inv-loop μ-loop
 same-length c = read-length (c .before .before .before .before .before .before .before .loop .block) (c .before .before .before .before
@@ -42,10 +42,10 @@ returns c =
     .read-some .last .1 .0) (c .before .before .before .before .before .before .before .loop .done) _ 0 (c .before .before .before
     .before .before .before .before .loop .inv .1) (c .before .before .before .before .before .before .before .loop .inv .0) (c
     .before .before .before .before .read-some .kept .1 .0) in
-    omega (arith, c .block-of .ensures, c .before .before .before .before .before .before .before .loop .inv .0)
+    omega (arith, c .after-read .ensures, c .before .before .before .before .before .before .before .loop .inv .0)
 
-block-of-requires-2 : tie.Need-block-of-requires-2 Inv-loop μ-loop
-block-of-requires-2 c κs = tt
+after-read-requires-2 : tie.Need-after-read-requires-2 Inv-loop μ-loop
+after-read-requires-2 c κs = tt
 
 same-length-2 : tie.Need-same-length-2 Inv-loop μ-loop
 same-length-2 c = read-length (c .before .before .before .before .before .before .before .before .before .loop .block) (c .before
@@ -61,7 +61,7 @@ returns-2 c =
     .before .loop .done) _ 0 (c .before .before .before .before .before .before .before .before .before .loop .inv .1) (c .before
     .before .before .before .before .before .before .before .before .loop .inv .0) (c .before .before .before .before .before
     .before .read-some .kept .1 .0) in
-    omega (arith, c .block-of2 .ensures, c .before .before .before .before .before .before .before .before .before .loop .inv .0)
+    omega (arith, c .after-read2 .ensures, c .before .before .before .before .before .before .before .before .before .loop .inv .0)
 
 add-done : tie.Need-add-done Inv-loop μ-loop
 add-done c =
@@ -99,14 +99,14 @@ loop-again c = (
   refl,
 )
 
-block-of-requires-3 : tie.Need-block-of-requires-3 Inv-loop μ-loop
-block-of-requires-3 c κs = tt
+after-read-requires-3 : tie.Need-after-read-requires-3 Inv-loop μ-loop
+after-read-requires-3 c κs = tt
 
 same-length-3 : tie.Need-same-length-3 Inv-loop μ-loop
 same-length-3 c = c .before .before .loop .inv .1
 
 returns-3 : tie.Need-returns-3 Inv-loop μ-loop
-returns-3 c = omega (arith, c .block-of3 .ensures, c .before .before .loop .inv .0, c .before .before .loop .inv .1)
+returns-3 c = omega (arith, c .after-read3 .ensures, c .before .before .loop .inv .0, c .before .before .loop .inv .1)
 
 pub fill-spec : {M : Type 1} → statement M
 fill-spec =
@@ -119,15 +119,15 @@ fill-spec =
     part-read-some-start
     part-read-some-end
     read-some-requires
-    block-of-requires
+    after-read-requires
     same-length
     returns
-    block-of-requires-2
+    after-read-requires-2
     same-length-2
     returns-2
     add-done
     loop-less
     loop-again
-    block-of-requires-3
+    after-read-requires-3
     same-length-3
     returns-3)

@@ -1,18 +1,19 @@
 use mathlib.Core.Path.{_≡_, refl, _∙_}
 use native.Mathlib.Omega.{arith}
 use lib.ListN.{length}
-use borrow.Author.Tests.{not-false}
-use Rattle.mmureport.specs.Ready.{Ready}
+use Rattle.report.specs.Ready.{Ready}
+use Rattle.mmureport.proofs.Laws.{ready-again, goes-on}
 use Rattle.mmureport.proofs.replay.Statement.{statement}
 use Rattle.mmureport.proofs.replay.Tie as tie
 
 abbrev Inv-loop : tie.InvT-loop
-Inv-loop fd buffer₀ words₀ links₀ presents₀ totals₀ block₀ registers₀ left₀ buffer words links presents totals block registers left =
+Inv-loop fd buffer₀ words₀ links₀ presents₀ totals₀ block₀ full registers₀ left₀ buffer words links presents totals block registers left =
     Ready words links presents totals × (length buffer ≡ length buffer₀) × (length words ≡ length words₀) × (length links ≡ length links₀)
     × (length presents ≡ length presents₀) × (length totals ≡ length totals₀) × (length block ≡ length block₀)
 
 abbrev μ-loop : tie.MeasureT-loop
-μ-loop fd buffer₀ words₀ links₀ presents₀ totals₀ block₀ registers₀ left₀ buffer words links presents totals block registers left = left
+μ-loop fd buffer₀ words₀ links₀ presents₀ totals₀ block₀ full registers₀ left₀ buffer words links presents totals block registers left =
+    left
 
 loop-holds : tie.Need-loop-holds Inv-loop μ-loop
 loop-holds c = (c .before .before .before .before .before .pre, refl, refl, refl, refl, refl, refl)
@@ -20,33 +21,37 @@ loop-holds c = (c .before .before .before .before .before .pre, refl, refl, refl
 count-block-requires : tie.Need-count-block-requires Inv-loop μ-loop
 count-block-requires c κs = c .before .before .before .before .before .before .before .loop .inv .0
 
+ending-of-requires : tie.Need-ending-of-requires Inv-loop μ-loop
+ending-of-requires c κs = tt
+
 same-length : tie.Need-same-length Inv-loop μ-loop
-same-length c = c .before .before .before .before .before .before .before .before .before .before .before .before .buffer .given ∙ c
-    .before .before .before .before .before .before .before .before .before .before .before .before .before .before .before .before
-    .before .before .before .before .before .loop .inv .1
+same-length c = c .before .before .before .before .before .before .before .before .before .before .before .before .before .buffer .given
+    ∙ c .before .before .before .before .before .before .before .before .before .before .before .before .before .before .before .before
+    .before .before .before .before .before .before .loop .inv .1
 
 same-length-2 : tie.Need-same-length-2 Inv-loop μ-loop
-same-length-2 c = c .before .before .before .before .before .before .before .before .before .before .words .given ∙ c .before .before
+same-length-2 c = c .before .before .before .before .before .before .before .before .before .before .before .words .given ∙ c .before
     .before .before .before .before .before .before .before .before .before .before .before .before .before .before .before .before
-    .before .before .before .loop .inv .2
+    .before .before .before .before .before .loop .inv .2
 
 same-length-3 : tie.Need-same-length-3 Inv-loop μ-loop
-same-length-3 c = c .before .before .before .before .before .before .before .before .links .given ∙ c .before .before .before .before
+same-length-3 c = c .before .before .before .before .before .before .before .before .before .links .given ∙ c .before .before .before
     .before .before .before .before .before .before .before .before .before .before .before .before .before .before .before .before
-    .before .loop .inv .3
+    .before .before .before .loop .inv .3
 
 same-length-4 : tie.Need-same-length-4 Inv-loop μ-loop
-same-length-4 c = c .before .before .before .before .before .before .presents .given ∙ c .before .before .before .before .before .before
-    .before .before .before .before .before .before .before .before .before .before .before .before .before .before .before .loop .inv
-    .4
+same-length-4 c = c .before .before .before .before .before .before .before .presents .given ∙ c .before .before .before .before .before
+    .before .before .before .before .before .before .before .before .before .before .before .before .before .before .before .before
+    .before .loop .inv .4
 
 same-length-5 : tie.Need-same-length-5 Inv-loop μ-loop
-same-length-5 c = c .before .before .before .before .totals .given ∙ c .before .before .before .before .before .before .before .before
-    .before .before .before .before .before .before .before .before .before .before .before .before .before .loop .inv .5
+same-length-5 c = c .before .before .before .before .before .totals .given ∙ c .before .before .before .before .before .before .before
+    .before .before .before .before .before .before .before .before .before .before .before .before .before .before .before .loop .inv
+    .5
 
 same-length-6 : tie.Need-same-length-6 Inv-loop μ-loop
-same-length-6 c = c .before .before .before .block .given ∙ c .before .before .before .before .before .before .before .before .before
-    .before .before .before .before .before .before .before .before .before .before .before .before .loop .inv .6
+same-length-6 c = c .before .before .before .before .block .given ∙ c .before .before .before .before .before .before .before .before
+    .before .before .before .before .before .before .before .before .before .before .before .before .before .before .loop .inv .6
 
 returns : tie.Need-returns Inv-loop μ-loop
 returns c = tt
@@ -66,27 +71,23 @@ loop-less c = omega (
 )
 
 loop-again : tie.Need-loop-again Inv-loop μ-loop
-loop-again c = (
-  c .before .before .before .before .before .before .before .before .before .before .before .before .before .before .count-block
-      .ensures (not-false (c .before .before .before .before .before .before .before .before .before .before .before .before .before
-      .before .count-block .result .more) (c .before .if1 .left)),
-  c .before .before .before .before .before .before .before .before .before .before .before .before .before .buffer .given ∙ c .before
-      .before .before .before .before .before .before .before .before .before .before .before .before .before .before .before .before
-      .before .before .before .before .before .loop .inv .1,
-  c .before .before .before .before .before .before .before .before .before .before .before .words .given ∙ c .before .before .before
-      .before .before .before .before .before .before .before .before .before .before .before .before .before .before .before .before
-      .before .before .before .loop .inv .2,
-  c .before .before .before .before .before .before .before .before .before .links .given ∙ c .before .before .before .before .before
-      .before .before .before .before .before .before .before .before .before .before .before .before .before .before .before .before
-      .before .loop .inv .3,
-  c .before .before .before .before .before .before .before .presents .given ∙ c .before .before .before .before .before .before .before
-      .before .before .before .before .before .before .before .before .before .before .before .before .before .before .before .loop .inv
-      .4,
-  c .before .before .before .before .before .totals .given ∙ c .before .before .before .before .before .before .before .before .before
-      .before .before .before .before .before .before .before .before .before .before .before .before .before .loop .inv .5,
-  c .before .before .before .before .block .given ∙ c .before .before .before .before .before .before .before .before .before .before
-      .before .before .before .before .before .before .before .before .before .before .before .before .loop .inv .6,
-)
+loop-again c =
+    let now = c .before .before .before .before .before .before .before .before .before .before .before .before .before .before .before
+    .before .before .before .before .before .before .before .loop in
+    let counted = c .before .before .before .before .before .before .before .before .before .before .before .before .before .before
+    .count-block in (
+      ready-again _ _ _ _ (now .totals) _ (now .inv .0 .columns) (now .inv .0 .fit) (c .before .before .before .before .before .totals
+          .given) (c .before .before .before .before .before .before .before .before .before .before .before .words .given)
+          (counted .ensures .in-limit (goes-on (counted .result .fits) (counted .result .failed) _ (c .before .if1 .left)))
+          (counted .ensures .indexed),
+      c .before .before .before .before .before .before .before .before .before .before .before .before .before .buffer .given ∙ now
+          .inv .1,
+      c .before .before .before .before .before .before .before .before .before .before .before .words .given ∙ now .inv .2,
+      c .before .before .before .before .before .before .before .before .before .links .given ∙ now .inv .3,
+      c .before .before .before .before .before .before .before .presents .given ∙ now .inv .4,
+      c .before .before .before .before .before .totals .given ∙ now .inv .5,
+      c .before .before .before .before .block .given ∙ now .inv .6,
+    )
 
 same-length-7 : tie.Need-same-length-7 Inv-loop μ-loop
 same-length-7 c = c .before .loop .inv .1
@@ -117,6 +118,7 @@ replay-spec =
     μ-loop
     loop-holds
     count-block-requires
+    ending-of-requires
     same-length
     same-length-2
     same-length-3

@@ -18,11 +18,11 @@ arg-count-requires c κs = tt
 loop-holds : tie.Need-loop-holds Inv-loop μ-loop
 loop-holds c = (omega arith, refl, refl, refl)
 
-sub-report-argument : tie.Need-sub-report-argument Inv-loop μ-loop
-sub-report-argument c = omega arith
+sub-write-lines : tie.Need-sub-write-lines Inv-loop μ-loop
+sub-write-lines c = omega arith
 
-report-argument-requires : tie.Need-report-argument-requires Inv-loop μ-loop
-report-argument-requires c κs = c .before .before .before .before .loop .inv .3 ∙ c .before .before .before .before .before .before
+write-lines-requires : tie.Need-write-lines-requires Inv-loop μ-loop
+write-lines-requires c κs = c .before .before .before .before .loop .inv .3 ∙ c .before .before .before .before .before .before
     .before .before .before .pre
 
 next-requires : tie.Need-next-requires Inv-loop μ-loop
@@ -73,8 +73,8 @@ report-files-spec =
     μ-loop
     arg-count-requires
     loop-holds
-    sub-report-argument
-    report-argument-requires
+    sub-write-lines
+    write-lines-requires
     next-requires
     loop-less
     loop-again

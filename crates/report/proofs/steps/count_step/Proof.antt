@@ -38,7 +38,7 @@ same-length-3 c = search needs
 
 returns : tie.Need-returns
 returns c = step-access _ _ _ _ _ (c .before .before .before .before .before .before .before .before .before .before .before .before
-    .before .before .before .before .pre .3) _ _ _ _ _ (c .before .before .before .before .before .before .before .before .before
+    .before .before .before .before .pre .indexed) _ _ _ _ _ (c .before .before .before .before .before .before .before .before .before
     .before .command .given .1) (c .before .before .before .before .before .count-access .ensures)
 
 same-length-4 : tie.Need-same-length-4
@@ -69,8 +69,9 @@ same-length-10 c = search needs
 
 returns-3 : tie.Need-returns-3
 returns-3 c = step-set _ _ _ _ _ (c .before .before .before .before .before .before .before .before .before .before .before .before
-    .before .pre .3) _ _ _ _ _ (c .before .before .before .before .before .before .before .enum-told .given .1) (c .before .before
-    .before .before .before .before .before .before .before .before .before .before .before .pre .1) (c .before .before .before .before
+    .before .pre .indexed) _ _ _ _ _ (c .before .before .before .before .before .before .before .enum-told .given .1) (c .before .before
+    .before .before .before .before .before .before .before .before .before .before .before .pre .in-limit) (c .before .before .before
+    .before
     .count-plain .ensures)
 
 same-length-11 : tie.Need-same-length-11
@@ -81,8 +82,10 @@ same-length-12 c = search needs
 
 returns-4 : tie.Need-returns-4
 returns-4 c = step-malformed _ _ _ _ _ (c .before .before .before .before .before .before .before .before .before .before .before
-    .before .before .pre .3) _ _ _ (c .before .before .before .before .before .before .before .enum-told2 .given .1) (c .before .before
-    .before .before .before .before .before .before .before .before .before .before .before .pre .1) (c .before .before .before .before
+    .before .before .pre .indexed) _ _ _ (c .before .before .before .before .before .before .before .enum-told2 .given .1) (c .before
+    .before
+    .before .before .before .before .before .before .before .before .before .before .before .pre .in-limit) (c .before .before .before
+    .before
     .count-plain2 .ensures)
 
 pub count-step-spec : {M : Type 1} → statement M

@@ -6,8 +6,8 @@ use Rattle.report.proofs.steps.count_store.Tie as tie
 leaf-count-requires : tie.Need-leaf-count-requires
 leaf-count-requires c κs = search needs
 
-word-at-requires : tie.Need-word-at-requires
-word-at-requires c κs = search needs
+word-or-zero-requires : tie.Need-word-or-zero-requires
+word-or-zero-requires c κs = search needs
 
 step-requires : tie.Need-step-requires
 step-requires c κs = search needs
@@ -30,19 +30,22 @@ same-length-4 c = search needs
 returns : tie.Need-returns
 returns c = store-nothing _ _ _ _ _ _ (c .before .before .before .before .before .before .step .ensures) _ (c .before .before .before
     .before .before .before .before .before .before .before .before .before .before .before .before .before .before .before .before .pre
-    .2) _ _ (c .before .before .before .before .before .before .before .before .before .before .before .before .before .before .before
-    .before .before .before .before .pre .3) (c .before .before .before .before .before .before .before .before .before .before .before
-    .before .before .before .before .before .before .before .before .pre .1) (c .match .keys2)
+    .fit) _ _ (c .before .before .before .before .before .before .before .before .before .before .before .before .before .before
+    .before
+    .before .before .before .before .pre .indexed) (c .before .before .before .before .before .before .before .before .before .before
+    .before
+    .before .before .before .before .before .before .before .before .pre .in-limit) (c .match .keys2)
 
 stored-requires : tie.Need-stored-requires
 stored-requires c κs = store-indexed _ _ _ _ _ _ (c .before .before .before .before .before .before .before .before .before .before
     .before .step .ensures) (c .before .before .before .before .before .before .before .before .before .before .before .before .before
     .before .before .before .before .before .before .before .before .before .before .before .args .totals .now) (c .before .before
     .before .before .before .before .before .before .before .before .before .before .before .before .before .before .before .before
-    .before .before .before .before .before .before .pre .2) _ (c .before .before .before .before .outcome .given .1) _ _ _ (c .before
+    .before .before .before .before .before .before .pre .fit) _ (c .before .before .before .before .outcome .given .1) _ _ _ (c .before
     .before .before .before .before .before .before .before .before .before .before .before .before .before .before .before .before
-    .before .before .before .before .before .before .before .pre .3) (c .before .before .before .before .before .before .before .before
-    .before .before .before .before .before .before .word-at .ensures)
+    .before .before .before .before .before .before .before .pre .indexed) (c .before .before .before .before .before .before .before
+    .before
+    .before .before .before .before .before .before .word-or-zero .ensures)
 
 leaf-count-requires-2 : tie.Need-leaf-count-requires-2
 leaf-count-requires-2 c κs = (
@@ -51,12 +54,13 @@ leaf-count-requires-2 c κs = (
       .before .before .before .before .before .before .before .before .before .before .before .before .before .before .before .before
       .before .before .before .before .before .before .before .before .before .before .before .before .args .totals .now) (c .before
       .before .before .before .before .before .before .before .before .before .before .before .before .before .before .before .before
-      .before .before .before .before .before .before .before .before .before .before .before .before .before .before .before .pre .2) _
+      .before .before .before .before .before .before .before .before .before .before .before .before .before .before .before .pre .fit) _
       (c .before .before .before .before .before .before .before .before .before .before .before .before .outcome .given .1) _ _ _ (c
       .before .before .before .before .before .before .before .before .before .before .before .before .before .before .before .before
-      .before .before .before .before .before .before .before .before .before .before .before .before .before .before .before .before .pre
-      .3) (c .before .before .before .before .before .before .before .before .before .before .before .before .before .before .before
-      .before .before .before .before .before .before .before .word-at .ensures) .0,
+      .before .before .before .before .before .before .before .before .before .before .before .before .before .before .before .before
+      .pre .indexed) (c .before .before .before .before .before .before .before .before .before .before .before .before .before
+      .before .before
+      .before .before .before .before .before .before .before .word-or-zero .ensures) .0,
   c .before .before .before .before .before .before
       .before .stored .ensures,
 )
@@ -65,10 +69,10 @@ book-store-requires : tie.Need-book-store-requires
 book-store-requires c κs = (
   c .before .before .before .before .before .before .before .before .before .before .before .before .before
       .before .before .before .before .before .before .before .before .before .before .before .before .before .before .before .before
-      .before .before .before .before .before .pre .0,
+      .before .before .before .before .before .pre .columns,
   c .before .before .before .before .before .before .before .before .before .before
       .before .before .before .before .before .before .before .before .before .before .before .before .before .before .before .before
-      .before .before .before .before .before .before .before .before .pre .1,
+      .before .before .before .before .before .before .before .before .pre .in-limit,
 )
 
 same-length-5 : tie.Need-same-length-5
@@ -91,7 +95,7 @@ returns-2 c = store-counts _ _ _ _ _ _ (c .before .before .before .before .befor
     .before .before .before .before .before .before .before .before .before .before .before .before .step .ensures) _ (c .before .before
     .before .before .before .before .before .before .before .before .before .before .before .before .before .before .before .before
     .before .before .before .before .before .before .before .before .before .before .before .before .before .before .before .before
-    .before .before .pre .2) _ (c .before .before .before .before .before .before .before .before .before .before .before .before
+    .before .before .pre .fit) _ (c .before .before .before .before .before .before .before .before .before .before .before .before
     .before .before .before .before .outcome .given .1) _ _ (c .before .before .before .before .before .before .before .before .before
     .before .before .stored .ensures) _ _ (c .before .before .before .before .before .before .before .before .before .before .before
     .before .before .before .before .before .before .before .before .before .before .before .before .before .before .before .before
@@ -102,7 +106,7 @@ count-store-spec =
     tie.close
     (tie.spec
     leaf-count-requires
-    word-at-requires
+    word-or-zero-requires
     step-requires
     enum-known-outcome
     same-length

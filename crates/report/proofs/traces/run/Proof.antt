@@ -22,8 +22,8 @@ add-count c = omega arith
 
 loop-holds : tie.Need-loop-holds Inv-loop μ-loop
 loop-holds c = (
-  replayed-none _ _ _ _ _ _ (c .before .before .before .before .before .pre .3) (c .before .before .before .before .before
-      .pre .1),
+  replayed-none _ _ _ _ _ _ (c .before .before .before .before .before .pre .indexed) (c .before .before .before .before .before
+      .pre .in-limit),
   refl,
   refl,
   refl,
@@ -34,8 +34,9 @@ command-at-requires c κs = tt
 
 count-step-requires : tie.Need-count-step-requires Inv-loop μ-loop
 count-step-requires c κs = replay-fits _ _ _ _ _ _ _ _ _ (c .before .before .before .before .before .before .before .loop .inv .0) (c
-    .before .before .before .before .before .before .before .before .before .before .before .before .before .pre .0) (c .before .before
-    .before .before .before .before .before .before .before .before .before .before .before .pre .2)
+    .before .before .before .before .before .before .before .before .before .before .before .before .before .pre .columns) (c .before
+    .before
+    .before .before .before .before .before .before .before .before .before .before .before .pre .fit)
 
 same-length : tie.Need-same-length Inv-loop μ-loop
 same-length c = c .before .before .before .before .before .before .before .before .before .before .before .buffer .given ∙ c .before

@@ -1,4 +1,4 @@
--- What a replay needs of its runs, from one block to the next.
+-- What a replay needs of the runs that it is lent.
 use Prim.Native.Nat.{ℕ}
 use mathlib.Core.Path.{_≡_}
 use mathlib.Core.Bool.{true}
@@ -7,10 +7,11 @@ use lib.ListN.{length}
 use lib.IntN.{ℤ}
 use Rattle.page_table.specs.Stretches.{tablesFit}
 use Rattle.reach.specs.Index.{Indexes}
 use Rattle.report.specs.Totals.{AllWithin}
 
+-- tables of a fitting length with their index, and fourteen totals for each of 63 identifications, all within the limit
 pub record Ready (words links presents : List ℕ) (totals : List ℤ) : Type 0 where
-  pub columns : length totals ≡ 882
-  pub in-limit : AllWithin totals
   pub fit : tablesFit words ≡ true
   pub indexed : Indexes words links presents
+  pub columns : length totals ≡ 882
+  pub in-limit : AllWithin totals
