@@ -43,6 +43,10 @@ use Rattle.line.specs.Text.{ascii, digit, digits, lengthWithin, decimalLength, 
 use Rattle.line.specs.Lines.{wordOf, headOf, lineOf}
 use Rattle.line.specs.Lines.{valueOf as lineValue}
 use Rattle.trace.specs.Traces.{linesOf as traceLines, startMachine, traceText}
+use Rattle.rows.specs.Rows.{signed, totalText, totalsText, rowOf, refusedText, unreadText}
+use Rattle.rows.specs.Rows.{headOf as rowHead}
+use Rattle.report.specs.Totals.{totalAt, booked, within, bookedWithin, bookedAll}
+use Rattle.report.specs.Gains.{gain, hasColumn, faultColumn, faultGains, accessGains, storeGains}
 use Rattle.examples.specs.Claims.{Values, allComputed, allOwed}
 use Rattle.examples.specs.Scene.{registersWith, enabled, enabledAfter, started, user, supervisor, replied, entryWith, oneEntry}
 use Rattle.examples.specs.Scene.{twoEntries}
@@ -57,6 +61,7 @@ use Rattle.examples.specs.Ends.{last, ends}
 use Rattle.examples.specs.Sequences.{lent, fresh, worked, workedLines, strays, strayLines, outcomes}
 use Rattle.examples.specs.Sequences.{outcomeLines, sequences}
 use Rattle.examples.specs.Traces.{workedInput, workedText, traces}
+use Rattle.examples.specs.Reports.{reports}
 use Rattle.examples.specs.Examples.{examples}
 
 pub all-hold : allComputed examples ≡ allOwed examples
@@ -80,5 +85,6 @@ unfolding all count lowest vpnOf offsetOf location vpn15Of slotOf setOf unpack j
     bytesOf numberAt elementAt encoded kindOf userOf writeOf drawOf indexOf valueOf isPlain wellFormed settingNumbers settingOf accessOf
     askedBy commandOf commandAt commandsFrom recordCount commandsOf stepReply bufferAfterStep wordsAfterStep machineAfterStep ascii digit
     digits lengthWithin decimalLength decimal hex wordOf headOf lineOf lineValue traceLines startMachine traceText workedInput workedText
-    traces examples
+    traces signed totalText totalsText rowHead rowOf refusedText unreadText totalAt booked within bookedWithin bookedAll gain hasColumn
+    faultColumn faultGains accessGains storeGains reports examples
 all-hold = refl

@@ -11,8 +11,9 @@ use Rattle.examples.specs.Stores.{sweeps, stores, guardedSettings}
 use Rattle.examples.specs.Ends.{ends}
 use Rattle.examples.specs.Sequences.{sequences}
 use Rattle.examples.specs.Traces.{traces}
+use Rattle.examples.specs.Reports.{reports}
 
 unfoldable pub examples : List Example
 examples =
     marked ++ rows ++ segments ++ refusals ++ exceptions ++ hits ++ calls ++ fields ++ walks
-    ++ served ++ sweeps ++ stores ++ guardedSettings ++ ends ++ sequences ++ traces
+    ++ served ++ sweeps ++ stores ++ guardedSettings ++ ends ++ sequences ++ traces ++ reports

@@ -6,6 +6,7 @@ pub mod Stores
 pub mod Ends
 pub mod Sequences
 pub mod Traces
+pub mod Reports
 pub mod Marked
 pub mod Accesses
 pub mod Conditions

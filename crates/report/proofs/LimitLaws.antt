@@ -4,20 +4,23 @@ use mathlib.Core.Path.{_≡_, refl, sym, ap, ap₂, _∙_}
 use mathlib.Core.Bool.{Bool, true, false, cond, true≢false}
 use mathlib.Core.List.{List, [], _∷_}
 use native.Mathlib.Omega.{arith}
-use lib.ListN.{length, getD, set, take}
+use lib.ListN.{length, getD, set, take, replicate, length-replicate}
 use lib.Dec.{eqb, leb}
 use lib.IntN.{ℤ, pos, natAbs, _+ℤ_, +ℤ-idr, +ℤ-assoc}
 use borrow.Author.Tests.{eqb-true, leb-true, leb-false, le-leb, lt-leb, eq-eqb}
 use Rattle.registers.specs.declared.Outcome.{Outcome}
 use Rattle.registers.specs.declared.Outcome.the-variants.{At, Fault, Done, Refused}
 use Rattle.store.specs.Machine.{Machine}
+use Rattle.trace.specs.Commands.{commandsOf}
 use Rattle.trace.specs.Steps.{stepReply, wordsAfterStep, machineAfterStep}
+use Rattle.trace.specs.Traces.{startMachine}
 use Rattle.trace.specs.declared.Command.{Command}
 use Rattle.trace.specs.declared.Command.the-variants.{Serve, Store, Set, Malformed}
 use Rattle.report.specs.Totals.{Gain, Booked, totalAt, booked, within, bookedWithin, bookedAll, AllWithin}
 use Rattle.report.specs.Gains.{gain, hasColumn, faultColumn, faultGains, accessGains, storeGains, leafChange, gainsOf}
-use Rattle.report.specs.Tallies.{Tally, bookedBy, tallyStep, continued, tallyOf}
-use Rattle.report.specs.Sums.{amountIn, added, sumOf, StaysWithin, FitsWhereWithin}
+use Rattle.report.specs.Tallies.{Tally, bookedBy, tallyStep, continued, tallyOf, fileTally}
+use Rattle.report.specs.Sums.{amountIn, added, sumOf, StaysWithin, FitsWhereWithin, FileFitsWhereWithin}
+use Rattle.report.proofs.StartLaws.{zero-within}
 use Rattle.report.proofs.TotalLaws.{all-set}
 use Rattle.report.proofs.SumLaws.{Columned, gains-columned, booked-length, booked-adds, record-adds}
 
@@ -268,3 +271,8 @@ fits-where-within m totals (c ∷ cs) long all = (
   where
     longer : (bookedBy m totals c) .fits ≡ true → length ((bookedBy m totals c) .totals) ≡ 882
     longer fit = record-adds m totals c 0 0 (omega arith) (omega arith) long fit .1
+
+pub file-fits-where-within : FileFitsWhereWithin
+unfolding fileTally
+file-fits-where-within lent input =
+    fits-where-within (startMachine lent) (replicate 882 (pos 0)) (commandsOf input) (length-replicate 882 (pos 0)) (zero-within 882)

@@ -3,7 +3,7 @@ use Prim.Native.Nat.{ℕ, _≤_, _<_}
 use mathlib.Core.Path.{_≡_}
 use mathlib.Core.Bool.{true, cond}
 use mathlib.Core.List.{List, [], _∷_}
-use lib.ListN.{length, getD, take}
+use lib.ListN.{length, getD, take, replicate}
 use lib.Dec.{eqb}
 use lib.IntN.{ℤ, pos, _+ℤ_}
 use Rattle.slots.specs.Buffer.{Buffer}
@@ -52,3 +52,9 @@ pub record StaysWithin (m : Machine) (totals : List ℤ) (cs : List Command) : T
 abbrev pub FitsWhereWithin : Type 0
 FitsWhereWithin = (m : Machine) (totals : List ℤ) (cs : List Command) → length totals ≡ 882 → AllWithin totals →
     ((tallyOf m totals cs) .fits ≡ true → StaysWithin m totals cs) × (StaysWithin m totals cs → (tallyOf m totals cs) .fits ≡ true)
+
+-- the same of a file: it is not stopped exactly where every sum over its first records is within the limit
+abbrev pub FileFitsWhereWithin : Type 0
+FileFitsWhereWithin = (lent : Buffer) (input : List ℕ) →
+    ((fileTally lent input) .fits ≡ true → StaysWithin (startMachine lent) (replicate 882 (pos 0)) (commandsOf input))
+    × (StaysWithin (startMachine lent) (replicate 882 (pos 0)) (commandsOf input) → (fileTally lent input) .fits ≡ true)
