@@ -44,7 +44,7 @@ use Rattle.line.specs.Lines.{wordOf, headOf, lineOf}
 use Rattle.line.specs.Lines.{valueOf as lineValue}
 use Rattle.trace.specs.Traces.{linesOf as traceLines, startMachine, traceText}
 use Rattle.rows.specs.Rows.{signed, totalText, totalsText, rowOf, refusedText, unreadText}
-use Rattle.rows.specs.Rows.{headOf as rowHead}
+use Rattle.rows.specs.Rows.{rowHead}
 use Rattle.report.specs.Totals.{totalAt, booked, within, bookedWithin, bookedAll}
 use Rattle.report.specs.Gains.{gain, hasColumn, faultColumn, faultGains, accessGains, storeGains}
 use Rattle.examples.specs.Claims.{Values, allComputed, allOwed}

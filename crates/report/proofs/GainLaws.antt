@@ -9,7 +9,7 @@ use lib.IntN.{ℤ, pos}
 use borrow.Author.Tests.{leb-true, le-leb, lt-leb, eq-eqb, ne-eqb, not-true, not-false}
 use Rattle.registers.specs.declared.Outcome.{Outcome}
 use Rattle.registers.specs.declared.Outcome.the-variants.{At, Fault, Done, Refused}
-use Rattle.report.specs.Totals.{Gain, SERVED, LOADS, AllWithin, BookGives, BooksGive}
+use Rattle.report.specs.Totals.{Gain, SERVED, LOADS, AllWithin, BookGives, BookAllGives}
 use Rattle.report.specs.Gains.{gain, hasColumn, faultColumn, faultGains, accessGains}
 use Rattle.report.proofs.TotalLaws.{books-none, books-one, books-then, books-stop}
 
@@ -37,47 +37,47 @@ column-small value r e = rw e (go (leb value 8) refl (eqb value 16))
 
 -- a fault's ways
 module _ (id value loads : ℕ) (totals : List ℤ) (b : Bool) (mid : List ℤ)
-    (p : BooksGive id (gain SERVED (pos 1) ∷ gain LOADS (pos loads) ∷ []) totals b mid) where
-  pub fault-stop : not b ≡ true → BooksGive id (accessGains (Fault value) loads) totals false mid
+    (p : BookAllGives id (gain SERVED (pos 1) ∷ gain LOADS (pos loads) ∷ []) totals b mid) where
+  pub fault-stop : not b ≡ true → BookAllGives id (accessGains (Fault value) loads) totals false mid
   unfolding accessGains
   fault-stop e = books-stop id (gain SERVED (pos 1) ∷ gain LOADS (pos loads) ∷ []) (faultGains value) totals b mid p (not-true b e)
 
   module _ (e : not b ≡ false) (has : Bool) (told : has ≡ hasColumn value) where
-    pub fault-none : not has ≡ true → BooksGive id (accessGains (Fault value) loads) totals true mid
+    pub fault-none : not has ≡ true → BookAllGives id (accessGains (Fault value) loads) totals true mid
     unfolding accessGains faultGains
     fault-none h =
         books-then id (gain SERVED (pos 1) ∷ gain LOADS (pos loads) ∷ []) (faultGains value) totals b mid p (not-false b e) true mid
-        (subst (λ (w : Bool). BooksGive id (cond w (gain (faultColumn value) (pos 1) ∷ []) []) mid true mid)
+        (subst (λ (w : Bool). BookAllGives id (cond w (gain (faultColumn value) (pos 1) ∷ []) []) mid true mid)
         (sym (not-true has h) ∙ told) (books-none id mid (p .in-limit (not-false b e))))
 
     pub fault-done : not has ≡ false → (column : ℕ) → column ≡ faultColumn value → (c : Bool) (after : List ℤ)
-        → BookGives id (gain column (pos 1)) mid c after → BooksGive id (accessGains (Fault value) loads) totals c after
+        → BookGives id (gain column (pos 1)) mid c after → BookAllGives id (accessGains (Fault value) loads) totals c after
     unfolding accessGains faultGains
     fault-done h column q c after g =
         books-then id (gain SERVED (pos 1) ∷ gain LOADS (pos loads) ∷ []) (faultGains value) totals b mid p (not-false b e) c after
-        (subst (λ (w : Bool). BooksGive id (cond w (gain (faultColumn value) (pos 1) ∷ []) []) mid c after)
+        (subst (λ (w : Bool). BookAllGives id (cond w (gain (faultColumn value) (pos 1) ∷ []) []) mid c after)
         (sym (not-false has h) ∙ told)
         (books-one id (gain (faultColumn value) (pos 1)) mid c after (subst (λ (k : ℕ). BookGives id (gain k (pos 1)) mid c after) q g)))
 
 -- an access by its outcome
 module _ (id loads : ℕ) (outcome : Outcome) (totals : List ℤ) where
   pub access-at : (address : ℕ) (b : Bool) (after : List ℤ) → outcome ≡ At address
-      → BooksGive id (gain SERVED (pos 1) ∷ gain LOADS (pos loads) ∷ []) totals b after → BooksGive id (accessGains outcome loads)
+      → BookAllGives id (gain SERVED (pos 1) ∷ gain LOADS (pos loads) ∷ []) totals b after → BookAllGives id (accessGains outcome loads)
       totals b after
   unfolding accessGains
-  access-at address b after e p = subst (λ (o : Outcome). BooksGive id (accessGains o loads) totals b after) (sym e) p
+  access-at address b after e p = subst (λ (o : Outcome). BookAllGives id (accessGains o loads) totals b after) (sym e) p
 
   pub access-fault : (value : ℕ) (b : Bool) (after : List ℤ) → outcome ≡ Fault value
-      → BooksGive id (accessGains (Fault value) loads) totals b after → BooksGive id (accessGains outcome loads) totals b after
-  access-fault value b after e p = subst (λ (o : Outcome). BooksGive id (accessGains o loads) totals b after) (sym e) p
+      → BookAllGives id (accessGains (Fault value) loads) totals b after → BookAllGives id (accessGains outcome loads) totals b after
+  access-fault value b after e p = subst (λ (o : Outcome). BookAllGives id (accessGains o loads) totals b after) (sym e) p
 
-  pub access-done : (value : ℕ) → outcome ≡ Done value → AllWithin totals → BooksGive id (accessGains outcome loads) totals true totals
+  pub access-done : (value : ℕ) → outcome ≡ Done value → AllWithin totals → BookAllGives id (accessGains outcome loads) totals true totals
   unfolding accessGains
   access-done value e all =
-      subst (λ (o : Outcome). BooksGive id (accessGains o loads) totals true totals) (sym e) (books-none id totals all)
+      subst (λ (o : Outcome). BookAllGives id (accessGains o loads) totals true totals) (sym e) (books-none id totals all)
 
   pub access-refused : (number : ℕ) → outcome ≡ Refused number → AllWithin totals
-      → BooksGive id (accessGains outcome loads) totals true totals
+      → BookAllGives id (accessGains outcome loads) totals true totals
   unfolding accessGains
   access-refused number e all =
-      subst (λ (o : Outcome). BooksGive id (accessGains o loads) totals true totals) (sym e) (books-none id totals all)
+      subst (λ (o : Outcome). BookAllGives id (accessGains o loads) totals true totals) (sym e) (books-none id totals all)

@@ -31,9 +31,9 @@ use Rattle.reach.specs.Index.{Indexes}
 use Rattle.trace.specs.Steps.{stepReply, bufferAfterStep, wordsAfterStep, machineAfterStep, StepGives}
 use Rattle.trace.specs.declared.Command.{Command}
 use Rattle.trace.specs.declared.Command.the-variants.{Serve, Store, Set, Malformed}
-use Rattle.report.specs.Totals.{Gain, Booked, EMPTIED, CHANGE, bookedAll, AllWithin, BooksGive}
+use Rattle.report.specs.Totals.{Gain, Booked, EMPTIED, CHANGE, bookedAll, AllWithin, BookAllGives}
 use Rattle.report.specs.Gains.{gain, accessGains, storeGains, leafChange, gainsOf}
-use Rattle.report.specs.Tallies.{Tally, bookedBy, tallyStep, CountGives, AccessCounts, PlainGives}
+use Rattle.report.specs.Tallies.{Tally, bookedBy, tallyStep, CountGives, AccessCountGives, PlainCountGives}
 use Rattle.report.specs.declared.Counted.{Counted}
 use Rattle.report.proofs.TotalLaws.{books-none}
 
@@ -51,8 +51,8 @@ step-machine m c reply buffer words s = λ j. record {
 -- an access
 pub access-counts : (m : Machine) (totals : List ℤ) (a : Access) (reply : Reply) (buffer : Buffer) (words : List ℕ) (b : Bool)
     (after : List ℤ) → StepGives m (Serve a) reply buffer words
-    → BooksGive (m .registers .context) (accessGains (reply .outcome) (reply .loads)) totals b after
-    → AccessCounts (tallyStep m totals (Serve a)) (record { registers = reply .registers; fits = b }) buffer words after
+    → BookAllGives (m .registers .context) (accessGains (reply .outcome) (reply .loads)) totals b after
+    → AccessCountGives (tallyStep m totals (Serve a)) (record { registers = reply .registers; fits = b }) buffer words after
 unfolding tallyStep bookedBy gainsOf
 access-counts m totals a reply buffer words b after s p = record {
   machine-is = step-machine m (Serve a) reply buffer words s;
@@ -134,7 +134,7 @@ module _ (m : Machine) (index value : ℕ) (reply : Reply) (buffer : Buffer) (wo
 
     pub store-counts : (links presents : List ℕ) → Indexes words links presents → (before after : ℕ) → before ≡ leafCount (m .words)
         → after ≡ leafCount words → (b : Bool) (totals-after : List ℤ)
-        → BooksGive (m .registers .context) (gain EMPTIED (pos n) ∷ gain CHANGE (pos after -ℤ pos before) ∷ []) totals b totals-after
+        → BookAllGives (m .registers .context) (gain EMPTIED (pos n) ∷ gain CHANGE (pos after -ℤ pos before) ∷ []) totals b totals-after
         → CountGives (tallyStep m totals (Store index value)) (record { registers = reply .registers; fits = b }) buffer words links
         presents
         totals-after
@@ -175,7 +175,7 @@ module _ (m : Machine) (index value : ℕ) (reply : Reply) (buffer : Buffer) (wo
 -- a record by its command
 module _ (m : Machine) (c : Command) (totals : List ℤ) (links presents : List ℕ) (x : Indexes (m .words) links presents)
     (counted : Counted) (buffer : Buffer) (words : List ℕ) where
-  pub step-access : (a : Access) (after : List ℤ) → c ≡ Serve a → AccessCounts (tallyStep m totals (Serve a)) counted buffer words after
+  pub step-access : (a : Access) (after : List ℤ) → c ≡ Serve a → AccessCountGives (tallyStep m totals (Serve a)) counted buffer words after
       → CountGives (tallyStep m totals c) counted buffer words links presents after
   unfolding tallyStep machineAfterStep wordsAfterStep
   step-access a after e s =
@@ -189,7 +189,7 @@ module _ (m : Machine) (c : Command) (totals : List ℤ) (links presents : List 
         in-limit = s .in-limit;
       })
 
-  plain : (gainsOf m c ≡ []) → wordsAfterStep m c ≡ m .words → AllWithin totals → PlainGives m c counted buffer words
+  plain : (gainsOf m c ≡ []) → wordsAfterStep m c ≡ m .words → AllWithin totals → PlainCountGives m c counted buffer words
       → CountGives (tallyStep m totals c) counted buffer words links presents totals
   unfolding tallyStep bookedBy machineAfterStep
   plain none same all s =
@@ -203,12 +203,12 @@ module _ (m : Machine) (c : Command) (totals : List ℤ) (links presents : List 
         in-limit = λ e. all;
       }
 
-  pub step-set : (number value : ℕ) → c ≡ Set number value → AllWithin totals → PlainGives m c counted buffer words
+  pub step-set : (number value : ℕ) → c ≡ Set number value → AllWithin totals → PlainCountGives m c counted buffer words
       → CountGives (tallyStep m totals c) counted buffer words links presents totals
   unfolding gainsOf wordsAfterStep
   step-set number value e = plain (ap (gainsOf m) e) (ap (wordsAfterStep m) e)
 
-  pub step-malformed : c ≡ Malformed → AllWithin totals → PlainGives m c counted buffer words
+  pub step-malformed : c ≡ Malformed → AllWithin totals → PlainCountGives m c counted buffer words
       → CountGives (tallyStep m totals c) counted buffer words links presents totals
   unfolding gainsOf wordsAfterStep
   step-malformed e = plain (ap (gainsOf m) e) (ap (wordsAfterStep m) e)
@@ -221,7 +221,7 @@ step-store m c totals index value counted buffer words links presents after e s 
     subst (λ (d : Command). CountGives (tallyStep m totals d) counted buffer words links presents after) (sym e) s
 
 pub plain-gives : (m : Machine) (c : Command) (reply : Reply) (buffer : Buffer) (words : List ℕ) → StepGives m c reply buffer words
-    → PlainGives m c (record { registers = reply .registers; fits = true }) buffer words
+    → PlainCountGives m c (record { registers = reply .registers; fits = true }) buffer words
 plain-gives m c reply buffer words s = record { machine-is = step-machine m c reply buffer words s; fits-is = refl }
 
 pub past-end : (words : List ℕ) (i : ℕ) → length words ≤ i → 0 ≡ getD words i 0

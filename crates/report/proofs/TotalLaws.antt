@@ -14,7 +14,7 @@ use mir.Syntax.{w64}
 use mir.Val.{SFits, ofZ, toZ}
 use mir.ValLaws.{toZ-ofZ}
 use Rattle.runs.proofs.Bools.{clash}
-use Rattle.report.specs.Totals.{Gain, Booked, totalAt, booked, within, bookedWithin, bookedAll, AllWithin, BookGives, BooksGive}
+use Rattle.report.specs.Totals.{Gain, Booked, totalAt, booked, within, bookedWithin, bookedAll, AllWithin, BookGives, BookAllGives}
 use Rattle.report.specs.Gains.{gain}
 
 -- the limit's test, in the code's words
@@ -103,12 +103,12 @@ module _ (id column : ℕ) (amount : ℤ) (totals : List ℤ) (all : AllWithin t
         }
 
 -- amounts one after the other
-pub books-none : (id : ℕ) (totals : List ℤ) → AllWithin totals → BooksGive id [] totals true totals
+pub books-none : (id : ℕ) (totals : List ℤ) → AllWithin totals → BookAllGives id [] totals true totals
 unfolding bookedAll
 books-none id totals all = record { totals-are = refl; fits-is = refl; in-limit = λ e. all }
 
 pub books-one : (id : ℕ) (g : Gain) (totals : List ℤ) (b : Bool) (after : List ℤ) → BookGives id g totals b after
-    → BooksGive id (g ∷ []) totals b after
+    → BookAllGives id (g ∷ []) totals b after
 unfolding bookedAll
 books-one id g totals b after p = record {
   totals-are = p .totals-are ∙ same (bookedWithin id g totals);
@@ -152,8 +152,8 @@ booked-append id (g ∷ gs) hs totals = go (bookedWithin id g totals) (booked-ap
     go true ih = ih
     go false ih = refl
 
-module _ (id : ℕ) (gs hs : List Gain) (totals : List ℤ) (b : Bool) (mid : List ℤ) (p : BooksGive id gs totals b mid) where
-  pub books-then : b ≡ true → (c : Bool) (after : List ℤ) → BooksGive id hs mid c after → BooksGive id (gs ++ hs) totals c after
+module _ (id : ℕ) (gs hs : List Gain) (totals : List ℤ) (b : Bool) (mid : List ℤ) (p : BookAllGives id gs totals b mid) where
+  pub books-then : b ≡ true → (c : Bool) (after : List ℤ) → BookAllGives id hs mid c after → BookAllGives id (gs ++ hs) totals c after
   books-then e c after q = record {
     totals-are = q .totals-are ∙ ap (λ (x : Booked). x .totals) (sym whole);
     fits-is = q .fits-is ∙ ap (λ (x : Booked). x .fits) (sym whole);
@@ -166,7 +166,7 @@ module _ (id : ℕ) (gs hs : List Gain) (totals : List ℤ) (b : Bool) (mid : Li
           ∙ ap₂ (λ (w : Bool) (ts : List ℤ). cond w (bookedAll id hs ts) (bookedAll id gs totals)) (sym (p .fits-is) ∙ e) (sym (p
           .totals-are))
 
-  pub books-stop : b ≡ false → BooksGive id (gs ++ hs) totals false mid
+  pub books-stop : b ≡ false → BookAllGives id (gs ++ hs) totals false mid
   books-stop e = record {
     totals-are = p .totals-are ∙ ap (λ (x : Booked). x .totals) (sym whole);
     fits-is = sym e ∙ p .fits-is ∙ ap (λ (x : Booked). x .fits) (sym whole);
@@ -180,10 +180,10 @@ module _ (id : ℕ) (gs hs : List Gain) (totals : List ℤ) (b : Bool) (mid : Li
 
 -- two amounts
 module _ (id : ℕ) (g h : Gain) (totals : List ℤ) (b : Bool) (mid : List ℤ) (p : BookGives id g totals b mid) where
-  pub two-stop : not b ≡ true → BooksGive id (g ∷ h ∷ []) totals false mid
+  pub two-stop : not b ≡ true → BookAllGives id (g ∷ h ∷ []) totals false mid
   two-stop e = books-stop id (g ∷ []) (h ∷ []) totals b mid (books-one id g totals b mid p) (not-true b e)
 
-  pub two-done : not b ≡ false → (c : Bool) (after : List ℤ) → BookGives id h mid c after → BooksGive id (g ∷ h ∷ []) totals c after
+  pub two-done : not b ≡ false → (c : Bool) (after : List ℤ) → BookGives id h mid c after → BookAllGives id (g ∷ h ∷ []) totals c after
   two-done e c after q =
       books-then id (g ∷ []) (h ∷ []) totals b mid (books-one id g totals b mid p) (not-false b e) c after (books-one id h mid c after q)
 

@@ -13,7 +13,7 @@ use Rattle.trace.specs.declared.Command.{Command}
 use Rattle.trace.specs.declared.Command.the-variants.{Serve, Store, Set, Malformed}
 use Rattle.report.specs.Totals.{Gain, SERVED, LOADS, EMPTIED, CHANGE}
 
--- an amount for a column
+-- a gain of so much in a column
 unfoldable pub gain : (column : ℕ) (amount : ℤ) → Gain
 gain column amount = record { column = column; amount = amount }
 

@@ -71,7 +71,7 @@ pub record CountGives (t : Tally) (counted : Counted) (buffer-after : Buffer) (w
   pub in-limit : counted .fits ≡ true → AllWithin totals-after
 
 -- the same of an access, which leaves the tables
-pub record AccessCounts (t : Tally) (counted : Counted) (buffer-after : Buffer) (words-after : List ℕ) (totals-after : List ℤ)
+pub record AccessCountGives (t : Tally) (counted : Counted) (buffer-after : Buffer) (words-after : List ℕ) (totals-after : List ℤ)
     : Type 0 where
   pub machine-is : record { registers = counted .registers; buffer = buffer-after; words = words-after } ≡ t .machine
   pub totals-are : totals-after ≡ t .totals
@@ -79,6 +79,6 @@ pub record AccessCounts (t : Tally) (counted : Counted) (buffer-after : Buffer) 
   pub in-limit : counted .fits ≡ true → AllWithin totals-after
 
 -- and of a record that gives nothing
-pub record PlainGives (m : Machine) (c : Command) (counted : Counted) (buffer-after : Buffer) (words-after : List ℕ) : Type 0 where
+pub record PlainCountGives (m : Machine) (c : Command) (counted : Counted) (buffer-after : Buffer) (words-after : List ℕ) : Type 0 where
   pub machine-is : record { registers = counted .registers; buffer = buffer-after; words = words-after } ≡ machineAfterStep m c
   pub fits-is : counted .fits ≡ true

@@ -68,7 +68,7 @@ pub record BookGives (id : ℕ) (g : Gain) (totals : List ℤ) (fits : Bool) (af
   pub in-limit : fits ≡ true → AllWithin after
 
 -- and some, one after the other
-pub record BooksGive (id : ℕ) (gains : List Gain) (totals : List ℤ) (fits : Bool) (after : List ℤ) : Type 0 where
+pub record BookAllGives (id : ℕ) (gains : List Gain) (totals : List ℤ) (fits : Bool) (after : List ℤ) : Type 0 where
   pub totals-are : after ≡ (bookedAll id gains totals) .totals
   pub fits-is : fits ≡ (bookedAll id gains totals) .fits
   pub in-limit : fits ≡ true → AllWithin after

@@ -5,7 +5,7 @@ ghost use Prim.Native.Nat.{_≤_};
 ghost use lib.ListN.{length};
 ghost use lib.IntN.{pos, _-ℤ_};
 ghost use Rattle.report.specs.Gains.{accessGains, faultColumn, gain, hasColumn};
-ghost use Rattle.report.specs.Totals.{AllWithin, BooksGive, CHANGE, EMPTIED, LOADS, SERVED};
+ghost use Rattle.report.specs.Totals.{AllWithin, BookAllGives, CHANGE, EMPTIED, LOADS, SERVED};
 use crate::totals::book;
 use registers::Outcome;
 
@@ -56,7 +56,7 @@ fn difference(a: u32, b: u32) -> i64
 // An accepted access counts once, with its loads.
 fn book_served(totals: &mut [i64], id: u32, loads: u32) -> bool
     requires { ⌜ (length (now totals) ≡ 882) × AllWithin (now totals) ⌝ }
-    ensures { λ b. ⌜ BooksGive id (gain SERVED (pos 1) ∷ gain LOADS (pos loads) ∷ []) (now (totals .entry)) b (now (totals .exit)) ⌝ }
+    ensures { λ b. ⌜ BookAllGives id (gain SERVED (pos 1) ∷ gain LOADS (pos loads) ∷ []) (now (totals .entry)) b (now (totals .exit)) ⌝ }
 {
     if !book(totals, id, SERVED, 1) {
         return false;
@@ -68,7 +68,7 @@ fn book_served(totals: &mut [i64], id: u32, loads: u32) -> bool
 // A fault counts by its value as well.
 fn book_fault(totals: &mut [i64], id: u32, value: u32, loads: u32) -> bool
     requires { ⌜ (length (now totals) ≡ 882) × AllWithin (now totals) ⌝ }
-    ensures { λ b. ⌜ BooksGive id (accessGains (Outcome.Fault value) loads) (now (totals .entry)) b (now (totals .exit)) ⌝ }
+    ensures { λ b. ⌜ BookAllGives id (accessGains (Outcome.Fault value) loads) (now (totals .entry)) b (now (totals .exit)) ⌝ }
 {
     if !book_served(totals, id, loads) {
         return false;
@@ -83,7 +83,7 @@ fn book_fault(totals: &mut [i64], id: u32, value: u32, loads: u32) -> bool
 // Books what an access gives, by its outcome; a refused one gives nothing.
 pub(crate) fn book_access(totals: &mut [i64], id: u32, outcome: Outcome, loads: u32) -> bool
     requires { ⌜ (length (now totals) ≡ 882) × AllWithin (now totals) ⌝ }
-    ensures { λ b. ⌜ BooksGive id (accessGains outcome loads) (now (totals .entry)) b (now (totals .exit)) ⌝ }
+    ensures { λ b. ⌜ BookAllGives id (accessGains outcome loads) (now (totals .entry)) b (now (totals .exit)) ⌝ }
 {
     match outcome {
         Outcome::At(_) => book_served(totals, id, loads),
@@ -96,7 +96,7 @@ pub(crate) fn book_access(totals: &mut [i64], id: u32, outcome: Outcome, loads: 
 // Books what an accepted store gives: the slots that it emptied, and leaf words after minus leaf words before.
 pub(crate) fn book_store(totals: &mut [i64], id: u32, emptied: u32, before: u32, after: u32) -> bool
     requires { ⌜ (length (now totals) ≡ 882) × AllWithin (now totals) ⌝ }
-    ensures { λ b. ⌜ BooksGive id (gain EMPTIED (pos emptied) ∷ gain CHANGE (pos after -ℤ pos before) ∷ [])
+    ensures { λ b. ⌜ BookAllGives id (gain EMPTIED (pos emptied) ∷ gain CHANGE (pos after -ℤ pos before) ∷ [])
         (now (totals .entry)) b (now (totals .exit)) ⌝ }
 {
     let amount = wide(emptied);

@@ -4,7 +4,7 @@ ghost use lib.ListN.{getD, length};
 ghost use Rattle.slots.specs.Buffer.{Buffer};
 ghost use Rattle.trace.specs.declared.Command.{Command as Asked};
 ghost use Rattle.report.specs.Ready.{Ready};
-ghost use Rattle.report.specs.Tallies.{AccessCounts, CountGives, PlainGives, tallyStep};
+ghost use Rattle.report.specs.Tallies.{AccessCountGives, CountGives, PlainCountGives, tallyStep};
 ghost use Rattle.report.specs.Totals.{AllWithin};
 use crate::Counted;
 use crate::gains::book_access;
@@ -33,7 +33,7 @@ fn count_access(
     access: Access,
 ) -> Counted
     requires { ⌜ (length (now totals) ≡ 882) × AllWithin (now totals) ⌝ }
-    ensures { λ s. ⌜ AccessCounts
+    ensures { λ s. ⌜ AccessCountGives
         (tallyStep (record { registers = r; buffer = Buffer.Wide (now (buffer .entry)); words = now (words .entry) })
         (now (totals .entry)) (Asked.Serve access))
         s (Buffer.Wide (now (buffer .exit))) (now (words .exit)) (now (totals .exit)) ⌝ }
@@ -83,7 +83,7 @@ fn count_store(
 
 // A record that gives nothing: a setting, or one that is malformed.
 fn count_plain(r: Registers, buffer: &mut [u64], words: &mut [u32], command: Command) -> Counted
-    ensures { λ s. ⌜ PlainGives
+    ensures { λ s. ⌜ PlainCountGives
         (record { registers = r; buffer = Buffer.Wide (now (buffer .entry)); words = now (words .entry) })
         command s (Buffer.Wide (now (buffer .exit))) (now (words .exit)) ⌝ }
 {

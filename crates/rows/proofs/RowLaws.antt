@@ -10,7 +10,7 @@ use lib.ListN.{length, getD, take, drop, take-append-drop}
 use Rattle.line.specs.Text.{ascii, decimal, decimalLength, overwritten, TextPut}
 use Rattle.line.proofs.TextLaws.{length-le, Stage, first-stage, next-stage, room}
 use Rattle.line.proofs.LineLaws.{decimal-wide, long-le}
-use Rattle.rows.specs.Rows.{signed, totalText, totalsText, headOf, rowOf, rowsOf, reportOf}
+use Rattle.rows.specs.Rows.{signed, totalText, totalsText, rowHead, rowOf, rowsOf, reportOf}
 
 -- a text that was written within so many bytes, as a stage and as it is promised
 module _ (run : List ℕ) (at : ℕ) (text : List ℕ) (k behind : ℕ) (after : List ℕ) where
@@ -126,12 +126,12 @@ module _ (run : List ℕ) (at number : ℕ) (w : number < 18446744073709551616) 
         omega arith
 
     pub head-put : (b″ : ℕ) (r″ : List ℕ) → TextPut r′ b′ (decimal id) b″ r″
-        → TextPut run at (headOf number id) b″ r″ × (b″ ≤ at + 23)
-    unfolding headOf
+        → TextPut run at (rowHead number id) b″ r″ × (b″ ≤ at + 23)
+    unfolding rowHead
     head-put b″ r″ t =
         let k = id-le id l in
         let e = decimal-wide id in
-        ended run at (headOf number id) 23 b″ r″
+        ended run at (rowHead number id) 23 b″ r″
         (next-stage run at (decimal number ++ ascii " ") 21 b′ r′ (decimal id) 2 b″ r″ space-stage t (omega arith) (omega arith))
 
 -- a file's one line: its number and a word behind it
@@ -145,14 +145,14 @@ single-put run number w b r word b′ r′ h m p q =
 
 -- an identification's line: its head, its totals and its end
 pub row-put : (run : List ℕ) (at number id : ℕ) (totals : List ℤ) (b : ℕ) (r : List ℕ) (b′ : ℕ) (r′ : List ℕ) (b″ : ℕ) (r″ : List ℕ)
-    → at + 318 ≤ length run → TextPut run at (headOf number id) b r → b ≤ at + 23 → TextPut r b (totalsText totals (14 * id) 14) b′ r′
+    → at + 318 ≤ length run → TextPut run at (rowHead number id) b r → b ≤ at + 23 → TextPut r b (totalsText totals (14 * id) 14) b′ r′
     → b′ ≤ b + 294 → TextPut r′ b′ (ascii "\n") b″ r″ → TextPut run at (rowOf number id totals) b″ r″ × (b″ ≤ at + 318)
 unfolding rowOf ascii
 row-put run at number id totals b r b′ r′ b″ r″ h p m q n t =
-    let head = begun run at (headOf number id) 23 b r p m (omega arith) in
-    let both = further run at (headOf number id) 23 b r (totalsText totals (14 * id) 14) 294 b′ r′ head q n (omega arith) in
+    let head = begun run at (rowHead number id) 23 b r p m (omega arith) in
+    let both = further run at (rowHead number id) 23 b r (totalsText totals (14 * id) 14) 294 b′ r′ head q n (omega arith) in
     ended run at (rowOf number id totals) 318 b″ r″
-    (next-stage run at (headOf number id ++ totalsText totals (14 * id) 14) 317 b′ r′ (ascii "\n") 1 b″ r″ both t
+    (next-stage run at (rowHead number id ++ totalsText totals (14 * id) 14) 317 b′ r′ (ascii "\n") 1 b″ r″ both t
     (omega arith) (omega arith))
 
 -- one line more

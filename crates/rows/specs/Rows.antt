@@ -20,12 +20,12 @@ totalsText totals from zero = []
 totalsText totals from (suc n) = totalsText totals from n ++ totalText (getD totals (from + n) (pos 0))
 
 -- the first two: the file's number and the identification
-unfoldable pub headOf : (number id : ℕ) → List ℕ
-headOf number id = decimal number ++ ascii " " ++ decimal id
+unfoldable pub rowHead : (number id : ℕ) → List ℕ
+rowHead number id = decimal number ++ ascii " " ++ decimal id
 
 -- an identification's line: the file's number, the identification, its fourteen totals
 unfoldable pub rowOf : (number id : ℕ) (totals : List ℤ) → List ℕ
-rowOf number id totals = headOf number id ++ totalsText totals (14 * id) 14 ++ ascii "\n"
+rowOf number id totals = rowHead number id ++ totalsText totals (14 * id) 14 ++ ascii "\n"
 
 -- the lines of the first n identifications
 unfoldable pub rowsOf : (number n : ℕ) (totals : List ℤ) → List ℕ

@@ -3,7 +3,7 @@ ghost use mathlib.Core.Path.{_≡_};
 ghost use Prim.Native.Nat.{_+_, _*_, _≤_, _<_};
 ghost use lib.ListN.{length};
 ghost use Rattle.line.specs.Text.{TextPut};
-ghost use Rattle.rows.specs.Rows.{headOf, rowOf, signed, totalText, totalsText};
+ghost use Rattle.rows.specs.Rows.{rowHead, rowOf, signed, totalText, totalsText};
 use line::put_decimal;
 use line::put_text;
 
@@ -49,7 +49,7 @@ fn put_totals(out: &mut [u8], at: usize, totals: &[i64], from: usize) -> usize
 // Writes the file's number and an identification, with a space between.
 fn put_head(out: &mut [u8], at: usize, number: u64, id: usize) -> usize
     requires { ⌜ (at + 23 ≤ length (now out)) × (id < 63) ⌝ }
-    ensures text { λ behind. ⌜ TextPut (now (out .entry)) at (headOf number id) behind (now (out .exit)) ⌝ }
+    ensures text { λ behind. ⌜ TextPut (now (out .entry)) at (rowHead number id) behind (now (out .exit)) ⌝ }
     ensures room { λ behind. ⌜ behind ≤ at + 23 ⌝ }
 {
     let space = put_decimal(out, at, number);
