@@ -9,7 +9,7 @@ use lib.Dec.{eqb, leb, lit≤}
 use native.Mathlib.Nat.{mul-le-mul}
 use native.Mathlib.Omega.{arith}
 use borrow.Author.Tests.{leb-true, leb-false, le-leb, lt-leb, not-false}
-use Rattle.runs.proofs.Bools.{both}
+use Rattle.runs.proofs.Bools.{both, or-neither}
 use Rattle.page_table.specs.Words.{reserved, number}
 use Rattle.page_table.specs.Stretches.{lengthFits, tablesFit, stretchSize, indexIn, stretch, inside, broken}
 
@@ -73,14 +73,10 @@ pub stretch-room : (size n w : ℕ) → size ≤ 1024 → n ≡ number w → siz
 unfolding number
 stretch-room size n w h e = let l : n ≤ 65535 = omega arith in mul-le-mul h l
 
-or-false : (a b : Bool) → a || b ≡ false → (a ≡ false) × (b ≡ false)
-or-false true b h = (h, cc)
-or-false false b h = (refl, h)
-
 -- what a word that is not broken names is inside the run
 pub sound-inside : (length size w : ℕ) → broken length size w ≡ false → size * number w + size ≤ length
 unfolding broken inside
-sound-inside length size w h = leb-true _ _ (not-false _ (or-false (not (eqb (reserved w) 0) || eqb (number w) 0) _ h .1))
+sound-inside length size w h = leb-true _ _ (not-false _ (or-neither (not (eqb (reserved w) 0) || eqb (number w) 0) _ h .1))
 
 -- the test of a broken word, with the index of the stretch's last word
 past-end : (a size length : ℕ) → 1 ≤ size → leb length (a + (size - 1)) ≡ not (leb (a + size) length)

@@ -6,7 +6,7 @@ use mathlib.Core.List.{List}
 use native.Mathlib.Omega.{arith}
 use lib.ListN.{length, getD}
 use lib.Dec.{eqb}
-use borrow.Author.Tests.{eqb-true, eq-eqb}
+use borrow.Author.Tests.{eqb-true, eq-eqb, not-true}
 use Rattle.runs.specs.Counts.{any}
 use Rattle.runs.proofs.Bools.{both, and-both, clash, same-test}
 use Rattle.runs.proofs.Counts.{any-at, any-from}
@@ -31,16 +31,15 @@ pub leads-to : (len levels w : ℕ) → leadsOn len levels w ≡ true → leadsT
 unfolding leadsTo
 leads-to len levels w h = and-both h (eq-eqb (number w) (number w) refl)
 
--- what a word that leads on names stands in the run
-leads-inside : (len vpn levels w : ℕ) → vpn < 524288 → leadsOn len levels w ≡ true → indexBelow vpn levels w < len
+-- a word that leads on is not broken
+pub leads-sound : (len levels w : ℕ) → leadsOn len levels w ≡ true → broken len (stretchSize levels) w ≡ false
 unfolding leadsOn
-leads-inside len vpn levels w page h =
-    below-inside len vpn levels w page
-    (go (broken len (stretchSize levels) w) (both (present w) (not (broken len (stretchSize levels) w)) h .1))
-  where
-    go : (b : Bool) → not b ≡ true → b ≡ false
-    go true e = sym e
-    go false e = refl
+leads-sound len levels w h =
+    not-true (broken len (stretchSize levels) w) (both (present w) (not (broken len (stretchSize levels) w)) h .1)
+
+-- what it names stands in the run
+leads-inside : (len vpn levels w : ℕ) → vpn < 524288 → leadsOn len levels w ≡ true → indexBelow vpn levels w < len
+leads-inside len vpn levels w page h = below-inside len vpn levels w page (leads-sound len levels w h)
 
 module _ (words : List ℕ) (vpn : ℕ) (global : Bool) (i : ℕ) where
   -- a walk that ends at a word as its leaf was led on by every word before it

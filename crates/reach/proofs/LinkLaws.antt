@@ -12,18 +12,18 @@ use lib.Dec.{eqb, ltb}
 use borrow.Author.Tests.{eqb-true, eqb-false, eq-eqb, ltb-true, ltb-false, lt-ltb, le-ltb, not-true, not-false}
 use Rattle.runs.specs.Bits.{bit}
 use Rattle.runs.specs.Counts.{count}
-use Rattle.runs.proofs.Bools.{clash, both, and-both}
+use Rattle.runs.proofs.Bools.{clash, and-both}
 use Rattle.runs.proofs.Counts.{count-same, count-change, count-some, count-le}
 use Rattle.runs.specs.Pieces.{tabulate}
 use Rattle.runs.proofs.Pieces.{tab-length, tab-at, tab-same, tab-is}
-use Rattle.page_table.specs.Words.{present, number}
-use Rattle.page_table.specs.Stretches.{stretchSize, broken}
+use Rattle.page_table.specs.Words.{number}
+use Rattle.page_table.specs.Stretches.{stretchSize}
 use Rattle.page_table.specs.Reads.{leadsOn}
 use Rattle.page_table.proofs.Stretches.{sound-inside}
 use Rattle.reach.specs.Reach.{leadsTo, linksTo}
 use Rattle.reach.specs.Index.{tableCount, linksFrom}
 use Rattle.reach.specs.Relinking.{stepped, Steps, relinked, relinkedFirst, Relinks, RelinksAll}
-use Rattle.reach.proofs.LeafLaws.{leads-to}
+use Rattle.reach.proofs.LeafLaws.{leads-to, leads-sound}
 
 -- the links by their entries
 pub links-length : (p : ℕ → Bool) (words : List ℕ) → length (linksFrom p words) ≡ tableCount words
@@ -49,14 +49,7 @@ links-same p q a b e h =
 
 -- the stretch of a word that leads on stands in the run
 pub leads-fits : (len levels w : ℕ) → leadsOn len levels w ≡ true → stretchSize levels * number w + stretchSize levels ≤ len
-unfolding leadsOn
-leads-fits len levels w h =
-    sound-inside len (stretchSize levels) w
-    (go (broken len (stretchSize levels) w) (both (present w) (not (broken len (stretchSize levels) w)) h .1))
-  where
-    go : (b : Bool) → not b ≡ true → b ≡ false
-    go true e = sym e
-    go false e = refl
+leads-fits len levels w h = sound-inside len (stretchSize levels) w (leads-sound len levels w h)
 
 leads-table : (words : List ℕ) (w : ℕ) → leadsOn (length words) 0 w ≡ true → number w < tableCount words
 unfolding tableCount stretchSize

@@ -13,7 +13,7 @@ use Rattle.runs.specs.Bits.{bit}
 use Rattle.runs.specs.Counts.{count}
 use mir.Val.{boolByte}
 use Rattle.runs.proofs.Bits.{bit-le, bit-byte}
-use Rattle.runs.proofs.Bools.{both, is-false}
+use Rattle.runs.proofs.Bools.{both, is-false, and-true, and-false}
 use Rattle.runs.proofs.Counts.{count-same, count-change, count-none, count-le, count-add, count-any, any-count}
 use Rattle.runs.proofs.Pieces.{tab-length, tab-at, tab-is}
 use Rattle.page_table.specs.Words.{present}
@@ -161,10 +161,6 @@ module _ (words links presents : List ℕ) (fits : tablesFit words ≡ true) (in
           → 0 < count (λ j. directoryReached words (j / 512) && linksTo words j t) (length words)
       pos-count n = let ne : (getD links t 0 ≡ 0) → ⊥ = linked in omega arith
 
-      and-true : (b : Bool) → b && true ≡ b
-      and-true true = refl
-      and-true false = refl
-
   -- and one without is not
   pub counted-skip : (leaves t : ℕ) → Counted words leaves t → t < tableCount words → getD links t 0 ≡ 0 → Counted words leaves (t + 1)
   unfolding tableReached
@@ -180,10 +176,6 @@ module _ (words links presents : List ℕ) (fits : tablesFit words ≡ true) (in
       (λ k kl. in-table t k kl ∙ ap (λ (b : Bool). present (getD words (1024 * t + k) 0) && b) off ∙ and-false (present (getD words
       (1024 * t + k) 0))) in
       record { some = omega arith; same = (let m = more t in let s = c .same in omega arith) }
-    where
-      and-false : (b : Bool) → b && false ≡ false
-      and-false true = refl
-      and-false false = refl
 
   pub counted-le : (leaves t : ℕ) → Counted words leaves t → leaves ≤ 67108864
   counted-le leaves t c =

@@ -10,7 +10,7 @@ use lib.ListN.{length, getD}
 use lib.Dec.{eqb}
 use borrow.Author.Tests.{eqb-true, eqb-false, eq-eqb, ne-eqb, not-true, not-false}
 use Rattle.runs.specs.Counts.{any}
-use Rattle.runs.proofs.Bools.{is-false, clash, both, and-both, or-either, or-left, or-right, same-test}
+use Rattle.runs.proofs.Bools.{is-false, clash, both, and-both, or-either, or-left, or-right, same-test, or-false}
 use Rattle.runs.proofs.Counts.{any-at, any-from, any-suc}
 use Rattle.page_table.specs.Words.{present, number, reserved}
 use Rattle.page_table.specs.Stretches.{tablesFit, stretchSize, broken, inside}
@@ -102,10 +102,6 @@ module _ (words : List ℕ) (root w : ℕ) where
         with-it d false h =
             let ne : eqb (number w) d ≡ false = ne-eqb (number w) d (λ q. eqb-false d (number w) h (sym q)) in
             rw (on, ne) (or-false (reachedBeside words root d))
-          where
-            or-false : (b : Bool) → b || false ≡ b
-            or-false true = refl
-            or-false false = refl
 
         without : (d : ℕ) (e : Bool) → eqb d (number w) ≡ e → reachedBeside words root d ≡ cond e false (reachedBeside words root d)
         without d true h = subst (λ (k : ℕ). reachedBeside words root k ≡ false) (sym (eqb-true d (number w) h)) alone

@@ -10,7 +10,7 @@ use lib.Seq.{getD-set-same, getD-set-other}
 use lib.Dec.{eqb}
 use borrow.Author.Tests.{eqb-true, eqb-false, eq-eqb, ne-eqb, not-true}
 use Rattle.runs.specs.Counts.{any}
-use Rattle.runs.proofs.Bools.{clash, both, and-both, or-either, or-left, or-right, same-test}
+use Rattle.runs.proofs.Bools.{and-false, or-neither, both, and-both, or-either, or-left, or-right, same-test}
 use Rattle.runs.proofs.Counts.{any-at, any-from, any-same}
 use Rattle.page_table.specs.Stretches.{tablesFit}
 use Rattle.page_table.specs.Reads.{leadsOn}
@@ -28,14 +28,6 @@ by-number P j i same other = go (eqb j i) refl
     go : (b : Bool) → eqb j i ≡ b → P
     go true e = same (eqb-true j i e)
     go false e = other (eqb-false j i e)
-
-and-false : (b : Bool) → b && false ≡ false
-and-false true = refl
-and-false false = refl
-
-or-neither : (a b : Bool) → a || b ≡ false → (a ≡ false) × (b ≡ false)
-or-neither true b h = absurd (clash refl h)
-or-neither false b h = (refl, h)
 
 -- where no root is left out
 pub beside-none : (words : List ℕ) (d : ℕ) → reachedBeside words 64 d ≡ directoryReached words d

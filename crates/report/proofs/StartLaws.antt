@@ -1,14 +1,15 @@
 -- The start of a replay: zero tables have an index that is all 0. Assumes nothing.
-use Prim.Native.Nat.{ℕ, zero, suc, _+_, _*_, _/_, _≤_, _<_}
-use mathlib.Core.Path.{_≡_, refl, sym, ap, ap₂, subst, _∙_}
+use Prim.Native.Nat.{ℕ, zero, suc, _+_, _*_, _/_, _≤_}
+use mathlib.Core.Path.{_≡_, refl, sym, ap, subst, _∙_}
 use mathlib.Core.Bool.{Bool, true, false, cond, _&&_}
-use mathlib.Core.List.{List, [], _∷_}
+use mathlib.Core.List.{List}
 use native.Mathlib.Omega.{arith}
-use lib.ListN.{length, getD, replicate, length-replicate, getD-replicate}
+use lib.ListN.{length, getD, replicate, length-replicate}
 use lib.IntN.{ℤ, pos, natAbs}
 use lib.Dec.{eqb}
 use borrow.Author.Tests.{eq-eqb}
 use Rattle.runs.specs.Counts.{count}
+use Rattle.runs.proofs.Bools.{and-false}
 use Rattle.runs.proofs.Counts.{count-none}
 use Rattle.runs.proofs.Pieces.{tab-is}
 use Rattle.registers.specs.declared.Reply.{Reply}
@@ -39,10 +40,6 @@ no-links n j t = rw (zero-at n j)
 zero-absent : present 0 ≡ false
 unfolding present
 zero-absent = refl
-
-and-false : (b : Bool) → b && false ≡ false
-and-false true = refl
-and-false false = refl
 
 -- a run of zeros
 abbrev zeros : (n : ℕ) → List ℕ
