@@ -3,53 +3,21 @@ use Prim.Native.Nat.{ℕ, _/_, _%_, _<_}
 use mathlib.Core.Path.{_≡_, refl, sym, ap, _∙_}
 use mathlib.Core.Bool.{Bool, true, false, not}
 use native.Mathlib.Omega.{arith}
-use lib.Dec.{lit<}
 use borrow.Author.Tests.{ltb-true, leb-true, eq-eqb, ne-eqb, not-false}
 use Rattle.runs.proofs.Bits.{bits-low}
 use Rattle.entry.specs.Entry.{join}
-use Rattle.registers.specs.Fields.{field, put, toWords, widths, fitsAt, registersFit, zeroRegisters}
+use Rattle.registers.specs.Fields.{put, widths, fitsAt, registersFit, zeroRegisters}
 use Rattle.registers.specs.Replies.{refusalOf, refused, done}
-use Rattle.registers.proofs.Fields.{fits-place}
 use Rattle.registers.proofs.RefusalLaws.{passed, refuse-here, refuse-later, when-accepted, when-refused, reply-refusal}
 use Rattle.registers.specs.declared.Registers.{Registers}
 use Rattle.registers.specs.declared.Reply.{Reply}
 use Rattle.slots.specs.Buffer.{Buffer, bufferFits, withSlot}
 use Rattle.slots.specs.Start.{startBuffer}
 use Rattle.control.specs.Starting.{startRefusal, startReply, startedBuffer, StartGives}
-use Rattle.control.specs.Writing.{isRegister, writeRefusal, writtenEntry, writtenBuffer, writeReply, bufferAfterWrite, WriteGives}
-use Rattle.control.specs.Reading.{readRefusal, readReply, ReadGives}
+use Rattle.control.specs.Halves.{entryFrom}
+use Rattle.control.specs.Writing.{writeRefusal, writtenEntry, writtenBuffer, writeReply, bufferAfterWrite, WriteGives}
 use Rattle.control.specs.Setting.{isGuarded, switchFits, argumentRefusal, settingRefusal, settingReply, GuardedSettingGives}
-
-pub number-below : (number : ℕ) (t : Bool) → t ≡ isRegister number → not t ≡ false → number < 10
-unfolding isRegister
-number-below number t q h = ltb-true number 10 (sym q ∙ not-false t h)
-
-pub record WriteAccepted (r : Registers) (b : Buffer) (number value : ℕ) : Type 0 where
-  pub registers-fit : registersFit r ≡ true
-  pub buffer-fits : bufferFits b ≡ true
-  pub number-lt : number < 10
-  pub value-fits : fitsAt number value ≡ true
-
-pub write-accepted : (r : Registers) (b : Buffer) (number value : ℕ) → writeRefusal r b number value ≡ 0 → WriteAccepted r b number value
-unfolding writeRefusal
-write-accepted r b number value h =
-    let one = passed (registersFit r) 1 _ (λ e. omega arith) h in
-    let two = passed (bufferFits b) 2 _ (λ e. omega arith) (one .1) in
-    let known = passed (isRegister number) 7 _ (λ e. omega arith) (two .1) in
-    let small = passed (fitsAt number value) 7 _ (λ e. omega arith) (known .1) in
-    record {
-      registers-fit = one .0;
-      buffer-fits = two .0;
-      number-lt = number-below number true (sym (known .0)) refl;
-      value-fits = small .0;
-    }
-
-pub read-accepted : (r : Registers) (number : ℕ) → readRefusal r number ≡ 0 → number < 10
-unfolding readRefusal
-read-accepted r number h =
-    let one = passed (registersFit r) 1 _ (λ e. omega arith) h in
-    let known = passed (isRegister number) 7 _ (λ e. omega arith) (one .1) in
-    number-below number true (sym (known .0)) refl
+use Rattle.control.proofs.NumberLaws.{NumberAccepted, number-passed}
 
 pub guarded-below : (number : ℕ) (t : Bool) → t ≡ isGuarded number → not t ≡ false → number < 11
 unfolding isGuarded
@@ -63,9 +31,13 @@ setting-accepted r number value h =
     let known = passed (isGuarded number) 7 _ (λ e. omega arith) (five .1) in
     guarded-below number true (sym (known .0)) refl
 
-pub select-lt : (r : Registers) → registersFit r ≡ true → r .select < 64
-unfolding field toWords widths
-select-lt r h = fits-place r 6 h (lit< tt)
+-- what an accepted write was handed
+pub write-accepted : (r : Registers) (b : Buffer) (number value : ℕ) → writeRefusal r b number value ≡ 0
+    → NumberAccepted r b number × (fitsAt number value ≡ true)
+unfolding writeRefusal
+write-accepted r b number value h =
+    let handed = number-passed r b number _ h in
+    (handed .0, passed (fitsAt number value) 7 _ (λ e. omega arith) (handed .1) .0)
 
 pub low-lt : (number value : ℕ) → number ≡ 8 → fitsAt number value ≡ true → value < 8388608
 unfolding fitsAt widths
@@ -75,7 +47,7 @@ low-lt number value e h = ltb-true value 8388608 (rw e at h)
 module _ (r : Registers) (b : Buffer) (number value : ℕ) where
   pub stores : (after : Buffer) (e : ℕ) → number ≡ 8 → e ≡ join (r .«tlb_hi» / 1024 % 32768) (r .«tlb_hi» % 64) value
       → after ≡ withSlot b (r .select) e → after ≡ writtenBuffer r b number value
-  unfolding writtenBuffer writtenEntry
+  unfolding writtenBuffer writtenEntry entryFrom
   stores after e n j q = q ∙ rw j (sym (rw (eq-eqb number 8 n, bits-low 5 (r .«tlb_hi»))))
 
   pub stores-none : (number ≡ 8 → ⊥) → b ≡ writtenBuffer r b number value
@@ -98,13 +70,6 @@ write-gives r b after number value reply q e = record {
   refusal-is = ap (λ (s : Reply). refusalOf (s .outcome)) q ∙ reply-refusal (writeRefusal r b number value) 0 (put r number value) r;
   reply-is = q;
   buffer-is = e;
-}
-
-pub read-gives : (r : Registers) (number : ℕ) (reply : Reply) → reply ≡ readReply r number → ReadGives r number reply
-unfolding readReply
-read-gives r number reply q = record {
-  refusal-is = ap (λ (s : Reply). refusalOf (s .outcome)) q ∙ reply-refusal (readRefusal r number) (field r number) r r;
-  reply-is = q;
 }
 
 pub setting-gives : (r : Registers) (number value : ℕ) (reply : Reply) → reply ≡ settingReply r number value

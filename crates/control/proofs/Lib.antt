@@ -1,1 +1,5 @@
+pub mod NumberLaws
 pub mod CallLaws
+pub mod HalvesLaws
+pub mod ReadLaws
+pub mod ReadingBack

@@ -1,33 +1,24 @@
 -- The call register write, numbers 0 to 9. Refusals 1, 2 and 7.
 use Prim.Native.Nat.{ℕ}
 use mathlib.Core.Path.{_≡_}
-use mathlib.Core.Bool.{Bool, cond}
-use lib.Dec.{eqb, ltb}
-use Rattle.runs.specs.Bits.{bits}
-use Rattle.entry.specs.Entry.{join}
-use Rattle.registers.specs.Fields.{put, fitsAt, registersFit, TLB_LO}
+use mathlib.Core.Bool.{cond}
+use lib.Dec.{eqb}
+use Rattle.registers.specs.Fields.{put, fitsAt, TLB_LO}
 use Rattle.registers.specs.Refusals.{refuseUnless, byRefusal}
 use Rattle.registers.specs.Replies.{refusalOf, refused, done}
 use Rattle.registers.specs.declared.Registers.{Registers}
 use Rattle.registers.specs.declared.Reply.{Reply}
-use Rattle.slots.specs.Buffer.{Buffer, bufferFits, withSlot}
-
--- a number that a register has: 0 to 9
-unfoldable pub isRegister : (number : ℕ) → Bool
-isRegister number = ltb number 10
+use Rattle.slots.specs.Buffer.{Buffer, withSlot}
+use Rattle.control.specs.Numbers.{numberRefusal}
+use Rattle.control.specs.Halves.{entryFrom}
 
 -- number 7: unknown register number, or a value too large for it
 unfoldable pub writeRefusal : Registers → Buffer → (number value : ℕ) → ℕ
-writeRefusal r b number value =
-    refuseUnless (registersFit r) 1
-    (refuseUnless (bufferFits b) 2
-    (refuseUnless (isRegister number) 7
-    (refuseUnless (fitsAt number value) 7 0)))
+writeRefusal r b number value = numberRefusal r b number (refuseUnless (fitsAt number value) 7 0)
 
--- the entry that a write to TLB_LO stores: from the vpn's upper 15 bits, the page_id and the written value. The vpn stands in TLB_HI's
--- bits 24 to 6, the page_id in 5 to 0; the vpn's low four bits are not stored
+-- the entry that a write to TLB_LO stores: from the vpn and the page_id that TLB_HI and the cause share, and the written value
 unfoldable pub writtenEntry : Registers → (value : ℕ) → ℕ
-writtenEntry r value = join (bits 24 10 (r .«tlb_hi»)) (bits 5 0 (r .«tlb_hi»)) value
+writtenEntry r value = entryFrom (r .«tlb_hi») value
 
 -- it is stored at SELECT, which gives its location
 unfoldable pub writtenBuffer : Registers → Buffer → (number value : ℕ) → Buffer

@@ -4,14 +4,18 @@ ghost use mathlib.Core.Path.{_≡_};
 ghost use Rattle.registers.specs.Fields.{fitsAt, registersFit};
 ghost use Rattle.slots.specs.Buffer.{Buffer, bufferFits};
 ghost use Rattle.control.specs.Starting.{StartGives, startRefusal};
-ghost use Rattle.control.specs.Writing.{WriteGives, isRegister, writeRefusal, writtenBuffer};
-ghost use Rattle.control.specs.Reading.{ReadGives, readRefusal};
+ghost use Rattle.control.specs.Numbers.{isRegister};
+ghost use Rattle.control.specs.Halves.{hiOf, loOf};
+ghost use Rattle.control.specs.Writing.{WriteGives, writeRefusal, writtenBuffer};
+ghost use Rattle.control.specs.Reading.{ReadGives, readRefusal, readValue};
 ghost use Rattle.control.specs.Setting.{GuardedSettingGives, isGuarded, settingRefusal, switchFits};
 use registers::Registers;
 use registers::Reply;
 
 // Register numbers.
 const CONTEXT: u32 = 5;
+
+const TLB_HI: u32 = 7;
 
 const TLB_LO: u32 = 8;
 
@@ -34,8 +38,9 @@ fn is_register(number: u32) -> bool
     number < 10
 }
 
-fn write_refusal(r: Registers, buffer: &[u64], number: u32, value: u32) -> u32
-    ensures { λ n. ⌜ n ≡ writeRefusal r (Buffer.Wide (now (buffer .entry))) number value ⌝ }
+// A read is refused for its registers, its buffer or its number.
+fn read_refusal(r: Registers, buffer: &[u64], number: u32) -> u32
+    ensures { λ n. ⌜ n ≡ readRefusal r (Buffer.Wide (now (buffer .entry))) number ⌝ }
 {
     if !registers::registers_fit(r) {
         return 1;
@@ -45,6 +50,17 @@ fn write_refusal(r: Registers, buffer: &[u64], number: u32, value: u32) -> u32
     }
     if !is_register(number) {
         return 7;
+    }
+    0
+}
+
+// A write is refused as a read is, and for a value too large.
+fn write_refusal(r: Registers, buffer: &[u64], number: u32, value: u32) -> u32
+    ensures { λ n. ⌜ n ≡ writeRefusal r (Buffer.Wide (now (buffer .entry))) number value ⌝ }
+{
+    let refusal = read_refusal(r, buffer, number);
+    if refusal != 0 {
+        return refusal;
     }
     if !registers::fits_at(number, value) {
         return 7;
@@ -77,27 +93,46 @@ pub fn write_register(r: Registers, buffer: &mut [u64], number: u32, value: u32)
     registers::done(after, 0)
 }
 
-fn read_refusal(r: Registers, number: u32) -> u32
-    ensures { λ n. ⌜ n ≡ readRefusal r number ⌝ }
+// TLB_HI of an entry in a slot: its vpn, for which the slot gives the location, and its page_id.
+fn hi_of(slot: u32, e: u64) -> u32
+    ensures { λ v. ⌜ v ≡ hiOf slot e ⌝ }
 {
-    if !registers::registers_fit(r) {
-        return 1;
-    }
-    if !is_register(number) {
-        return 7;
-    }
-    0
+    let vpn15 = entry::vpn15_of(e);
+    let page_id = entry::page_id_of(e);
+    (16 * vpn15 + slot % 16) * 64 + page_id
 }
 
-// Reads a register: the outcome is Done with its value.
-pub fn read_register(r: Registers, number: u32) -> Reply
-    ensures { λ s. ⌜ ReadGives r number s ⌝ }
+// TLB_LO of an entry: its bits 22 to 0.
+fn lo_of(e: u64) -> u32
+    ensures { λ v. ⌜ v ≡ loOf e ⌝ }
 {
-    let refusal = read_refusal(r, number);
+    (e % 8388608) as u32
+}
+
+// TLB_HI and TLB_LO read as the entry at SELECT, every other number as its own field.
+fn read_value(r: Registers, buffer: &[u64], number: u32) -> u32
+    requires { ⌜ readRefusal r (Buffer.Wide (now buffer)) number ≡ 0 ⌝ }
+    ensures { λ v. ⌜ v ≡ readValue r (Buffer.Wide (now (buffer .entry))) number ⌝ }
+{
+    let e = slots::slot_at(buffer, r.select);
+    if number == TLB_HI {
+        return hi_of(r.select, e);
+    }
+    if number != TLB_LO {
+        return registers::field(r, number);
+    }
+    lo_of(e)
+}
+
+// Reads a register: the outcome is Done with its value. Registers and buffer stay.
+pub fn read_register(r: Registers, buffer: &[u64], number: u32) -> Reply
+    ensures { λ s. ⌜ ReadGives r (Buffer.Wide (now (buffer .entry))) number s ⌝ }
+{
+    let refusal = read_refusal(r, buffer, number);
     if refusal != 0 {
         return registers::refused(r, refusal);
     }
-    let value = registers::field(r, number);
+    let value = read_value(r, buffer, number);
     registers::done(r, value)
 }
 

@@ -27,8 +27,11 @@ use Rattle.mmu.specs.RawAccess.{rawRefusal, rawReply}
 use Rattle.mmu.specs.ServedAccess.{mayBeServed, servedRefusal, outcomeOf, triedReply, missed, loadedAt, registersLoaded, bufferLoaded}
 use Rattle.mmu.specs.ServedAccess.{afterMiss, bufferAfterMiss, firstTry, walkFor, accessReply, accessBuffer, servedReply, servedBuffer}
 use Rattle.control.specs.Starting.{startRefusal, startReply, startedBuffer}
-use Rattle.control.specs.Writing.{isRegister, writeRefusal, writtenEntry, writtenBuffer, writeReply, bufferAfterWrite}
-use Rattle.control.specs.Reading.{readRefusal, readReply}
+use Rattle.control.specs.Numbers.{isRegister, numberRefusal}
+use Rattle.control.specs.Halves.{hiOf, loOf, entryFrom}
+use Rattle.control.specs.Writing.{writeRefusal, writtenEntry, writtenBuffer, writeReply, bufferAfterWrite}
+use Rattle.control.specs.Reading.{readRefusal, readValue, readReply}
+use Rattle.control.specs.ReadingBack.{lookAt}
 use Rattle.control.specs.Setting.{isGuarded, switchFits, argumentRefusal, settingRefusal, settingReply}
 use Rattle.sequence.specs.Calls.{refusal, accepted, requestOf, effectBy, leftBy}
 use Rattle.sequence.specs.Requests.{effectOf}
@@ -41,7 +44,6 @@ use Rattle.trace.specs.Commands.{accessOf, askedBy, commandOf, commandAt, comma
 use Rattle.trace.specs.Steps.{stepReply, bufferAfterStep, wordsAfterStep, machineAfterStep}
 use Rattle.line.specs.Text.{ascii, digit, digits, lengthWithin, decimalLength, decimal, hex}
 use Rattle.line.specs.Lines.{wordOf, headOf, lineOf}
-use Rattle.line.specs.Lines.{valueOf as lineValue}
 use Rattle.trace.specs.Traces.{linesOf as traceLines, startMachine, traceText}
 use Rattle.rows.specs.Rows.{signed, totalText, totalsText, rowOf, refusedText, unreadText}
 use Rattle.rows.specs.Rows.{rowHead}
@@ -57,6 +59,7 @@ use Rattle.examples.specs.Calls.{short, caused, calls, largest, fields}
 use Rattle.examples.specs.Walks.{tables, good, shared, globalBroken, walks}
 use Rattle.examples.specs.Served.{machine, agedEntry, aged, reading, served}
 use Rattle.examples.specs.Stores.{entryOf, agreeing, sweeps, numbers, stores, guardedSettings}
+use Rattle.examples.specs.Reads.{ones, upperBits, afterMissing, refilled, reads}
 use Rattle.examples.specs.Ends.{last, ends}
 use Rattle.examples.specs.Sequences.{lent, fresh, worked, workedLines, strays, strayLines, outcomes}
 use Rattle.examples.specs.Sequences.{outcomeLines, sequences}
@@ -71,10 +74,10 @@ unfolding all count lowest vpnOf offsetOf location vpn15Of slotOf setOf unpack j
     vpn15Matches idMatchesOrGlobal matchesPage hit fieldsAt setHits hitCount hitSet segmentOf inLinearSegment nibble segmentBase
     linearAddress invExc accExc weExc writeError accessViolation invalidPage exceptionValue pageAddress isSet noException withCause
     exceptionAddress interrupts exceptionAnswer hitValue onHit byHitCount foundSet pageMapped translate rawRefusal rawReply startRefusal
-    startReply startedBuffer isRegister writeRefusal writtenEntry writtenBuffer writeReply bufferAfterWrite readRefusal readReply Values
+    startReply startedBuffer isRegister numberRefusal hiOf loOf entryFrom writeRefusal writtenEntry writtenBuffer writeReply bufferAfterWrite readRefusal readValue readReply lookAt Values
     allComputed allOwed registersWith enabled enabledAfter started user supervisor replied entryWith oneEntry twoEntries slotsOf linear
     selected marked row rowAfter kernelPage openPage rows based segments tooWide refusals exceptions globalEntry highBits hits short
-    caused calls largest fields tables good shared globalBroken walks vpnAt sameLow sameEntry leafValid leafKernel leafWe leafPfn
+    caused calls largest fields ones upperBits afterMissing refilled reads tables good shared globalBroken walks vpnAt sameLow sameEntry leafValid leafKernel leafWe leafPfn
     lengthFits tablesFit walkFault setMatches loadSlot loadedBuffer leafEntry isEmpty agreesWithLeaf agreesWithTables kept keptAt
     settled sweptSlot sweptFirst swept emptied written indexFits storeRefusal storedWords storeReply bufferAfterStore wordsAfterStore
     mayBeServed

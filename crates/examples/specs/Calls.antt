@@ -1,4 +1,4 @@
--- Starts, register writes and register reads, and the bits of each field.
+-- Starts and register writes, and the bits of each field.
 use Prim.Native.Nat.{_+_, _*_}
 use mathlib.Core.List.{List, [], _∷_}
 use mathlib.Core.Bool.{true, false}
@@ -13,7 +13,6 @@ use Rattle.access.specs.declared.Physical.the-variants.{None}
 use Rattle.mmu.specs.RawAccess.{rawReply}
 use Rattle.control.specs.Starting.{startReply, startedBuffer}
 use Rattle.control.specs.Writing.{writeReply, bufferAfterWrite}
-use Rattle.control.specs.Reading.{readReply}
 use Rattle.examples.specs.Claims.{Example, _gives_}
 use Rattle.examples.specs.Scene.{reg, registersWith, enabledAfter, started, user, replied}
 use Rattle.examples.specs.Marked.{selected}
@@ -46,13 +45,8 @@ calls =
     ∷ (writeReply caused started CONTEXT 64 gives refused caused 7)
     ∷ (writeReply caused started 10 0 gives refused caused 7)
     ∷ (writeReply caused short 10 0 gives refused caused 2)
-    -- reading TLB_HI gives the shared fields
-    ∷ (readReply caused TLB_HI gives done caused (7 * 64 + 3))
-    ∷ (readReply caused TEST gives done caused 0)
-    ∷ (readReply caused 10 gives refused caused 7)
     -- registers are judged first
     ∷ (writeReply tooWide short 10 0 gives refused tooWide 1)
-    ∷ (readReply tooWide 10 gives refused tooWide 1)
     -- a refused write touches no slot, and an accepted one touches no other, whatever stood above bit 43
     ∷ (writeReply caused started TLB_LO 0x800000 gives refused caused 7)
     ∷ (bufferAfterWrite caused started TLB_LO 0x800000 gives started)
@@ -83,7 +77,4 @@ fields =
     ∷ (registersFit (put largest TLB_LO 0x800000) gives false)
     ∷ (registersFit (put largest TEST 2) gives false)
     ∷ (registersFit (put largest CAUSE 32) gives false)
-    -- a read of TLB_LO gives what was last written
-    ∷ (readReply largest TLB_LO gives done largest 0x7FFFFF)
-    ∷ (readReply largest TEST gives done largest 1)
     ∷ []

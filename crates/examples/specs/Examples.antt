@@ -5,6 +5,7 @@ use Rattle.examples.specs.Marked.{marked}
 use Rattle.examples.specs.Accesses.{rows, segments, refusals}
 use Rattle.examples.specs.Conditions.{exceptions, hits}
 use Rattle.examples.specs.Calls.{calls, fields}
+use Rattle.examples.specs.Reads.{reads}
 use Rattle.examples.specs.Walks.{walks}
 use Rattle.examples.specs.Served.{served}
 use Rattle.examples.specs.Stores.{sweeps, stores, guardedSettings}
@@ -15,5 +16,5 @@ use Rattle.examples.specs.Reports.{reports}
 
 unfoldable pub examples : List Example
 examples =
-    marked ++ rows ++ segments ++ refusals ++ exceptions ++ hits ++ calls ++ fields ++ walks
+    marked ++ rows ++ segments ++ refusals ++ exceptions ++ hits ++ calls ++ fields ++ reads ++ walks
     ++ served ++ sweeps ++ stores ++ guardedSettings ++ ends ++ sequences ++ traces ++ reports

@@ -11,4 +11,5 @@ pub mod Marked
 pub mod Accesses
 pub mod Conditions
 pub mod Calls
+pub mod Reads
 pub mod Examples

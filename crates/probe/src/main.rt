@@ -159,7 +159,7 @@ fn call(q: Request, buffer: &mut [u64], tables: &mut [u32]) -> Answer
         return reply_answer(control::write_register(r, buffer, q.first, q.second));
     }
     if q.kind == 3 {
-        return read_answer(control::read_register(r, q.first));
+        return read_answer(control::read_register(r, buffer, q.first));
     }
     table_call(q, buffer, tables)
 }

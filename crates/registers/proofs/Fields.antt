@@ -8,7 +8,7 @@ use native.Mathlib.Nat.{zero-add}
 use native.Mathlib.Decide.{ℕ-discrete}
 use lib.Dec.{ltb, eqb}
 use lib.ListN.{length, getD, set, length-set}
-use lib.Seq.{getD-set-same, getD-set-other, ext-getD}
+use lib.Seq.{getD-set-same, getD-set-other, set-set, ext-getD}
 use borrow.Author.Tests.{ltb-true, eqb-true}
 use Rattle.runs.specs.Counts.{all}
 use Rattle.runs.specs.Pieces.{tabulate}
@@ -60,6 +60,12 @@ unfolding field put
 put-other r place other value d =
     rw (to-from (set (toWords r) place value) (length-set (toWords r) place value ∙ words-length r))
     (getD-set-other (toWords r) place other value 0 d)
+
+pub put-again : (r : Registers) (place value next : ℕ) → put (put r place value) place next ≡ put r place next
+unfolding put
+put-again r place value next =
+    rw (to-from (set (toWords r) place value) (length-set (toWords r) place value ∙ words-length r))
+    (ap fromWords (set-set (toWords r) place value next))
 
 -- registers that fit still do after a value that fits its place
 pub put-fits : (r : Registers) (place value : ℕ) → registersFit r ≡ true → fitsAt place value ≡ true

@@ -1,5 +1,5 @@
 use mathlib.Core.Path.{refl}
-use Rattle.control.specs.Writing.{isRegister}
+use Rattle.control.specs.Numbers.{isRegister}
 use Rattle.control.proofs.is_register.Statement.{statement}
 use Rattle.control.proofs.is_register.Tie as tie
 

@@ -1,9 +1,8 @@
-use native.Mathlib.Omega.{arith}
-use mathlib.Core.Path.{sym, ap, _∙_}
+use mathlib.Core.Path.{ap, _∙_}
 use Rattle.registers.proofs.RefusalLaws.{when-accepted, when-refused}
 use Rattle.registers.specs.Replies.{refused, done}
 use Rattle.control.specs.Reading.{readReply}
-use Rattle.control.proofs.CallLaws.{read-gives, read-accepted}
+use Rattle.control.proofs.ReadLaws.{read-gives}
 use borrow.Author.Needs.{needs}
 use Rattle.control.proofs.read_register.Statement.{statement}
 use Rattle.control.proofs.read_register.Tie as tie
@@ -16,19 +15,19 @@ refused-requires c κs = search needs
 
 returns : tie.Need-returns
 unfolding readReply
-returns c = read-gives _ _ _ (when-refused _ _ (c .before .before .read-refusal .ensures) _ _ _ (c .before .if1 .taken)
+returns c = read-gives _ _ _ _ (when-refused _ _ (c .before .before .read-refusal .ensures) _ _ _ (c .before .if1 .taken)
     (c .refused .ensures ∙ ap (refused _) (c .before .before .read-refusal .ensures)))
 
-field-requires : tie.Need-field-requires
-field-requires c κs = omega (arith, read-accepted _ _ (sym (c .before .read-refusal .ensures) ∙ c .if1 .left))
+read-value-requires : tie.Need-read-value-requires
+read-value-requires c κs = search needs
 
 done-requires : tie.Need-done-requires
 done-requires c κs = search needs
 
 returns-2 : tie.Need-returns-2
 unfolding readReply
-returns-2 c = read-gives _ _ _ (when-accepted _ _ (c .before .before .before .read-refusal .ensures) _ _ _ (c .before .before .if1 .left)
-    (c .done .ensures ∙ ap (done _) (c .before .field .ensures)))
+returns-2 c = read-gives _ _ _ _ (when-accepted _ _ (c .before .before .before .read-refusal .ensures) _ _ _
+    (c .before .before .if1 .left) (c .done .ensures ∙ ap (done _) (c .before .read-value .ensures)))
 
 pub read-register-spec : {M : Type 1} → statement M
 read-register-spec =
@@ -37,6 +36,6 @@ read-register-spec =
     read-refusal-requires
     refused-requires
     returns
-    field-requires
+    read-value-requires
     done-requires
     returns-2)

@@ -1,5 +1,6 @@
 use native.Mathlib.Omega.{arith}
-use Rattle.control.proofs.CallLaws.{low-lt, select-lt, stores, stores-none}
+use Rattle.control.proofs.NumberLaws.{select-lt}
+use Rattle.control.proofs.CallLaws.{low-lt, stores, stores-none}
 use borrow.Author.Needs.{needs}
 use Rattle.control.proofs.write_buffer.Statement.{statement}
 use Rattle.control.proofs.write_buffer.Tie as tie

@@ -26,11 +26,11 @@ returns c = write-gives _ _ _ _ _ _ (when-refused _ _ (c .before .before .write-
 
 write-buffer-requires : tie.Need-write-buffer-requires
 write-buffer-requires c κs = let w = write-accepted _ _ _ _ (sym (c .before .before .write-refusal .ensures) ∙ c .before .if1 .left) in
-    (w .registers-fit, w .buffer-fits, w .value-fits)
+    (w .0 .registers-fit, w .0 .buffer-fits, w .1)
 
 put-requires : tie.Need-put-requires
 put-requires c κs = let w = write-accepted _ _ _ _ (sym (c .before .before .before .before .before .write-refusal .ensures)
-    ∙ c .before .before .before .before .if1 .left) in omega (arith, w .number-lt)
+    ∙ c .before .before .before .before .if1 .left) in omega (arith, w .0 .number-lt)
 
 done-requires : tie.Need-done-requires
 done-requires c κs = search needs
