@@ -44,14 +44,12 @@ pub fn all() -> Vec<String> {
 pub fn of(request: &Request, runs: Runs, expected: &Answer) -> Vec<String> {
     let registers = Registers::from_words(request.registers);
     let buffer = &request.buffer;
-    let refused_with = expected.words[1];
+    let answered = expected.words[1];
     match request.call {
-        Call::Start => start::of(registers, buffer, refused_with),
-        Call::Raw(access) => raw::of(registers, buffer, access, refused_with),
-        Call::Write { number, value } => {
-            write::of(registers, buffer, (number, value), refused_with)
-        }
-        Call::Read { number } => read::of(registers, buffer, number, refused_with),
+        Call::Start => start::of(registers, buffer, answered),
+        Call::Raw(access) => raw::of(registers, buffer, access, answered),
+        Call::Write { number, value } => write::of(registers, buffer, (number, value), answered),
+        Call::Read { number } => read::of(registers, buffer, number, answered),
         Call::Walk { page_id, vpn } => walk::of(runs.before, page_id, vpn),
         Call::Served(access) => served::of(&Served::new(
             (registers, buffer),
