@@ -42,7 +42,7 @@ pub use refusal::{
 };
 pub use register_read::read_register;
 pub use register_write::write_register;
-pub use registers::{fits, Registers, FIELDS, FIELD_BITS, FIELD_NAMES, TLB_HI, TLB_LO};
+pub use registers::{fits, Registers, FIELDS, FIELD_BITS, FIELD_NAMES, SELECT, TLB_HI, TLB_LO};
 pub use reply::{Outcome, Reply};
 pub use run::{InBytes, Run, RunMut};
 pub use search::{hits, is_hit, Hits};

@@ -2,7 +2,8 @@
 
 pub const FIELDS: usize = 11;
 
-/// The two numbers through which an entry is written and read.
+/// The numbers through which an entry is written and read.
+pub const SELECT: u32 = 6;
 pub const TLB_HI: u32 = 7;
 pub const TLB_LO: u32 = 8;
 

@@ -81,12 +81,12 @@ fn every_other_number_gives_its_field() {
 #[test]
 fn a_written_entry_is_read_back_with_selects_location() {
     let mut unit = Unit::new();
-    write(&mut unit, 6, 18);
+    write(&mut unit, SELECT, 18);
     write(&mut unit, TLB_HI, 0x12345 * 64 + 9);
     write(&mut unit, TLB_LO, LOW);
     assert_eq!(read(&unit, TLB_HI), 0x12342 * 64 + 9);
     assert_eq!(read(&unit, TLB_LO), LOW);
-    write(&mut unit, 6, 19);
+    write(&mut unit, SELECT, 19);
     assert_eq!(read(&unit, TLB_HI), (16 + 3) * 64 + 63);
     assert_eq!(read(&unit, TLB_LO), 0);
 }
@@ -100,7 +100,7 @@ fn the_cause_keeps_its_own_vpn_and_feeds_a_write() {
     let (answer, registers) = raw_access(unit.registers, &unit.buffer, access);
     assert_eq!(answer.unwrap().value, EXCEPTION_MISS);
     unit.registers = registers;
-    write(&mut unit, 6, 0);
+    write(&mut unit, SELECT, 0);
     assert_eq!(read(&unit, TLB_HI), 0x12340 * 64 + 0x2A);
     assert_eq!(unit.registers.shared_vpn(), 0x7654A);
     write(&mut unit, TLB_LO, 0);

@@ -13,7 +13,7 @@ pub mod walk;
 mod write;
 
 use crate::protocol::{Answer, Call, Request};
-use crate::witness;
+use crate::{read_back, witness};
 use reference::Registers;
 use served::Served;
 
@@ -37,6 +37,7 @@ pub fn all() -> Vec<String> {
         setting::all(),
         tables::all(),
         witness::all(),
+        read_back::all(),
     ]
     .concat()
 }
@@ -67,7 +68,7 @@ pub fn of(request: &Request, runs: Runs, expected: &Answer) -> Vec<String> {
     }
 }
 
-/// The outcomes of a call that stands in a sequence.
+/// The outcomes of a call that stands in a sequence; those of a dump are single calls too.
 pub fn in_sequence(request: &Request, runs: Runs, expected: &Answer) -> Vec<String> {
     let registers = Registers::from_words(request.registers);
     let buffer = &request.buffer;
@@ -84,6 +85,7 @@ pub fn in_sequence(request: &Request, runs: Runs, expected: &Answer) -> Vec<Stri
         Call::Setting { number, value } => {
             setting::in_sequence(registers, (number, value), expected)
         }
+        Call::Read { .. } | Call::Write { .. } => of(request, runs, expected),
         _ => Vec::new(),
     }
 }
