@@ -71,6 +71,7 @@ pub type HighRead = Rc<Cell<Option<u32>>>;
 
 pub enum Step {
     Select,
+    /// TLB_HI is read, and TLB_LO next.
     High {
         read: HighRead,
         written: Option<Written>,
@@ -80,6 +81,7 @@ pub enum Step {
         written: Option<Written>,
         exception: Option<Exception>,
     },
+    /// TLB_LO is written where both were read just before.
     StoreAfterReads,
     /// TLB_LO is written in another buffer, the 64 slots in their order.
     StoreBack {
