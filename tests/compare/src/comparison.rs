@@ -47,7 +47,7 @@ impl Question for Asked {
 impl Asked {
     /// What the witness of a sequence says of an answer, each of its points counted by itself.
     fn hear(&self, witness: &Witness, got: &Answer, report: &mut Report) {
-        for (point, holds) in witness.points(got) {
+        for (point, holds) in witness.points(&self.request, got) {
             report.add(point, holds);
             if !holds && report.may_print() {
                 println!("at case {}: {:X?}", report.cases, self.request.call);
@@ -79,8 +79,8 @@ impl Comparison {
         self.exchange.count()
     }
 
-    /// One request more, before a witness where it belongs to a sequence. The reference's answer
-    /// comes back.
+    /// One request more, before a witness where it belongs to a sequence or a dump. The reference's
+    /// answer comes back.
     pub fn put_before(&mut self, witness: Option<Witness>, mut request: Request) -> Answer {
         let bytes = request.to_bytes();
         if !request.tables.is_empty() {

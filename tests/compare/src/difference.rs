@@ -2,7 +2,7 @@
 
 use crate::expected::walk_is_possible;
 use crate::protocol::{Answer, Call, Request};
-use reference::{location, slots_of, vpn, walk, Access, Walk, FIELDS, FIELD_NAMES, SLOTS};
+use reference::{location, slots_of, vpn, walk, Access, Walk, FIELDS, FIELD_NAMES, SELECT, SLOTS};
 
 /// What is worth telling of the table run that a call found.
 pub struct Found {
@@ -34,6 +34,12 @@ pub fn print(case: usize, request: &Request, found: &Found, expected: &Answer, g
     match request.call {
         Call::Raw(access) | Call::Served(access) if request.buffer.len() == SLOTS => {
             print_slots(access, &request.buffer)
+        }
+        Call::Read { .. } => {
+            let select = request.registers[SELECT as usize] as usize;
+            if let Some(number) = request.buffer.get(select) {
+                println!("  buffer[{select}] is {number:X}");
+            }
         }
         _ => {}
     }

@@ -32,7 +32,10 @@ pub fn answer(request: &Request, tables: &mut Rc<Vec<u32>>) -> Answer {
             let (done, registers) = write_register(registers, &mut buffer, number, value);
             (words_of_done(done), registers)
         }
-        Call::Read { number } => (words_of_read(read_register(registers, number)), registers),
+        Call::Read { number } => {
+            let read = read_register(registers, &buffer, number);
+            (words_of_read(read), registers)
+        }
         Call::Walk { page_id, vpn } if walk_is_possible(page_id, vpn, tables) => {
             (words_of_walk(walk(&tables[..], page_id, vpn)), registers)
         }

@@ -21,6 +21,7 @@ mod program;
 mod protocol;
 mod put;
 mod random;
+mod read_back;
 mod reports;
 mod tally;
 mod traces;

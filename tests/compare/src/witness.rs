@@ -1,7 +1,9 @@
-//! What the reader and the account say of a call in a sequence, to be held against the answer.
+//! What the reader and the account say of a call in a sequence, or a student of a step in a dump,
+//! to be held against the answer.
 
 use crate::expected::{AT, DONE, FAULT, REFUSED};
-use crate::protocol::Answer;
+use crate::protocol::{Answer, Request};
+use crate::read_back::Step;
 use reference::*;
 use std::rc::Rc;
 
@@ -42,6 +44,7 @@ pub enum Told {
     Store { emptied: u32 },
     Setting,
     Words(Vec<u32>),
+    ReadBack(Step),
 }
 
 /// What has to stand after an accepted call.
@@ -64,9 +67,16 @@ pub struct Witness {
 }
 
 impl Witness {
+    pub fn of_step(step: Step) -> Witness {
+        Witness {
+            told: Told::ReadBack(step),
+            left: None,
+        }
+    }
+
     /// Each point that the witness can judge, and whether it holds.
-    pub fn points(&self, got: &Answer) -> Vec<(&'static str, bool)> {
-        let mut points = self.told.points(got);
+    pub fn points(&self, request: &Request, got: &Answer) -> Vec<(&'static str, bool)> {
+        let mut points = self.told.points(request, got);
         if let Some(left) = &self.left {
             points.extend(left.points(got));
         }
@@ -75,7 +85,7 @@ impl Witness {
 }
 
 impl Told {
-    fn points(&self, got: &Answer) -> Vec<(&'static str, bool)> {
+    fn points(&self, request: &Request, got: &Answer) -> Vec<(&'static str, bool)> {
         let [word, value, loads, _] = got.words;
         match self {
             Told::Refused(number) => {
@@ -95,6 +105,7 @@ impl Told {
             Told::Store { emptied } => vec![(EMPTIED, got.words == [DONE, *emptied, 0, 0])],
             Told::Setting => vec![(SET, got.words == [DONE, 0, 0, 0])],
             Told::Words(words) => vec![(WORDS_AGREE, got.tables == *words)],
+            Told::ReadBack(step) => step.points(request, got),
         }
     }
 }

@@ -1,5 +1,5 @@
-//! The memory unit of the ETRAX 100LX as document 01 tells it, and the report over traces that a
-//! request of document 02 asks for.
+//! The memory unit of the ETRAX 100LX as document 01 tells it, with what requests of document 02
+//! ask for: the register read that gives the entry at SELECT, and the report over traces.
 //!
 //! Each module is one heading of the paper, and quotes its words where a
 //! sentence decides.
@@ -42,7 +42,7 @@ pub use refusal::{
 };
 pub use register_read::read_register;
 pub use register_write::write_register;
-pub use registers::{fits, Registers, FIELDS, FIELD_BITS, FIELD_NAMES};
+pub use registers::{fits, Registers, FIELDS, FIELD_BITS, FIELD_NAMES, SELECT, TLB_HI, TLB_LO};
 pub use reply::{Outcome, Reply};
 pub use run::{InBytes, Run, RunMut};
 pub use search::{hits, is_hit, Hits};

@@ -3,9 +3,7 @@
 use crate::address::vpn15;
 use crate::entry::Entry;
 use crate::refusal::{check_buffer, check_number, check_registers, Refusal};
-use crate::registers::{fits, Registers, FIELD_BITS};
-
-const TLB_LO: u32 = 8;
+use crate::registers::{fits, Registers, FIELD_BITS, TLB_LO};
 
 /// Refusals 1, 2 and 7 in this order; a refused write changes nothing.
 pub fn write_register(

@@ -2,6 +2,11 @@
 
 pub const FIELDS: usize = 11;
 
+/// The numbers through which an entry is written and read.
+pub const SELECT: u32 = 6;
+pub const TLB_HI: u32 = 7;
+pub const TLB_LO: u32 = 8;
+
 /// Field n is register number n; the last is exception value × 2 + write bit.
 pub const FIELD_NAMES: [&str; FIELDS] = [
     "kseg", "ctrl", "enable", "kbase_lo", "kbase_hi", "context", "select", "tlb_hi", "tlb_lo",
@@ -22,6 +27,7 @@ pub struct Registers {
     pub select: u32,
     /// The vpn in bits 24 to 6 and the page_id in bits 5 to 0, shared with the cause register.
     pub tlb_hi: u32,
+    /// What was last written to TLB_LO; a read gives the entry at SELECT instead.
     pub tlb_lo: u32,
     pub test: u32,
     /// The cause register's own part: exception value × 2 + write bit.

@@ -1,5 +1,6 @@
 //! The cases that are put to both programs.
 
+mod dump;
 pub mod forest;
 mod raw;
 mod raw_edges;
@@ -30,6 +31,7 @@ use walk::Walks;
 
 const CASES_FOR_A_PROCESS: usize = 40_000;
 const SEQUENCES_FOR_A_PROCESS: usize = 20;
+const DUMPS_FOR_A_PROCESS: usize = 20;
 
 /// Register numbers and draws that are too large, some of them small once cut to fewer bits.
 const TOO_LARGE: [u32; 10] = [
@@ -63,6 +65,18 @@ pub fn at_random(comparison: &mut Comparison, random: &mut Random, total: usize)
         for _ in 0..CASES_FOR_A_PROCESS {
             if comparison.wants_more(total) {
                 comparison.put(any_case(random, &mut walks));
+            }
+        }
+    }
+}
+
+/// Dumps of the buffer, until the total is reached, some to each process.
+pub fn dumps(comparison: &mut Comparison, random: &mut Random, total: usize) {
+    while comparison.wants_more(total) {
+        comparison.restart();
+        for _ in 0..DUMPS_FOR_A_PROCESS {
+            if comparison.wants_more(total) {
+                dump::put(comparison, random);
             }
         }
     }

@@ -13,7 +13,7 @@ pub mod walk;
 mod write;
 
 use crate::protocol::{Answer, Call, Request};
-use crate::witness;
+use crate::{read_back, witness};
 use reference::Registers;
 use served::Served;
 
@@ -37,6 +37,7 @@ pub fn all() -> Vec<String> {
         setting::all(),
         tables::all(),
         witness::all(),
+        read_back::all(),
     ]
     .concat()
 }
@@ -44,14 +45,12 @@ pub fn all() -> Vec<String> {
 pub fn of(request: &Request, runs: Runs, expected: &Answer) -> Vec<String> {
     let registers = Registers::from_words(request.registers);
     let buffer = &request.buffer;
-    let refused_with = expected.words[1];
+    let answered = expected.words[1];
     match request.call {
-        Call::Start => start::of(registers, buffer, refused_with),
-        Call::Raw(access) => raw::of(registers, buffer, access, refused_with),
-        Call::Write { number, value } => {
-            write::of(registers, buffer, (number, value), refused_with)
-        }
-        Call::Read { number } => read::of(registers, buffer, number, refused_with),
+        Call::Start => start::of(registers, buffer, answered),
+        Call::Raw(access) => raw::of(registers, buffer, access, answered),
+        Call::Write { number, value } => write::of(registers, buffer, (number, value), answered),
+        Call::Read { number } => read::of(registers, buffer, number, answered),
         Call::Walk { page_id, vpn } => walk::of(runs.before, page_id, vpn),
         Call::Served(access) => served::of(&Served::new(
             (registers, buffer),
@@ -69,7 +68,7 @@ pub fn of(request: &Request, runs: Runs, expected: &Answer) -> Vec<String> {
     }
 }
 
-/// The outcomes of a call that stands in a sequence.
+/// The outcomes of a call that stands in a sequence; those of a dump are single calls too.
 pub fn in_sequence(request: &Request, runs: Runs, expected: &Answer) -> Vec<String> {
     let registers = Registers::from_words(request.registers);
     let buffer = &request.buffer;
@@ -86,6 +85,7 @@ pub fn in_sequence(request: &Request, runs: Runs, expected: &Answer) -> Vec<Stri
         Call::Setting { number, value } => {
             setting::in_sequence(registers, (number, value), expected)
         }
+        Call::Read { .. } | Call::Write { .. } => of(request, runs, expected),
         _ => Vec::new(),
     }
 }
