@@ -93,13 +93,13 @@ pub fn write_register(r: Registers, buffer: &mut [u64], number: u32, value: u32)
     registers::done(after, 0)
 }
 
-// TLB_HI of an entry in a slot: its vpn, for which the slot gives the location, and its page_id.
-fn hi_of(slot: u32, e: u64) -> u32
-    ensures { λ v. ⌜ v ≡ hiOf slot e ⌝ }
+// TLB_HI of the entry at SELECT: its vpn, of which SELECT gives the location, and its page_id.
+fn hi_of(r: Registers, e: u64) -> u32
+    ensures { λ v. ⌜ v ≡ hiOf (r .select) e ⌝ }
 {
     let vpn15 = entry::vpn15_of(e);
     let page_id = entry::page_id_of(e);
-    (16 * vpn15 + slot % 16) * 64 + page_id
+    (16 * vpn15 + r.select % 16) * 64 + page_id
 }
 
 // TLB_LO of an entry: its bits 22 to 0.
@@ -116,7 +116,7 @@ fn read_value(r: Registers, buffer: &[u64], number: u32) -> u32
 {
     let e = slots::slot_at(buffer, r.select);
     if number == TLB_HI {
-        return hi_of(r.select, e);
+        return hi_of(r, e);
     }
     if number != TLB_LO {
         return registers::field(r, number);

@@ -14,16 +14,16 @@ mul-result : tie.Need-mul-result
 mul-result c = let l = parts-lt 0 _ _ _ (c .before .vpn15-of .ensures) (c .page-id-of .ensures) in omega (arith, l)
 
 add-result : tie.Need-add-result
-add-result c = let l = parts-lt 0 _ _ _ (c .before .vpn15-of .ensures) (c .page-id-of .ensures) in omega (arith, l)
+add-result c = let l = parts-lt 0 _ _ _ (c .before .before .vpn15-of .ensures) (c .before .page-id-of .ensures) in omega (arith, l)
 
 mul-result-2 : tie.Need-mul-result-2
-mul-result-2 c = let l = parts-lt 0 _ _ _ (c .before .vpn15-of .ensures) (c .page-id-of .ensures) in omega (arith, l)
+mul-result-2 c = let l = parts-lt 0 _ _ _ (c .before .before .vpn15-of .ensures) (c .before .page-id-of .ensures) in omega (arith, l)
 
 add-result-2 : tie.Need-add-result-2
-add-result-2 c = let l = parts-lt 0 _ _ _ (c .before .vpn15-of .ensures) (c .page-id-of .ensures) in omega (arith, l)
+add-result-2 c = let l = parts-lt 0 _ _ _ (c .before .before .vpn15-of .ensures) (c .before .page-id-of .ensures) in omega (arith, l)
 
 returns : tie.Need-returns
-returns c = hi-is _ _ _ _ (c .before .vpn15-of .ensures) (c .page-id-of .ensures)
+returns c = hi-is _ _ _ _ (c .before .before .vpn15-of .ensures) (c .before .page-id-of .ensures)
 
 pub hi-of-spec : {M : Type 1} → statement M
 hi-of-spec =
