@@ -44,6 +44,7 @@ use Rattle.trace.specs.Commands.{accessOf, askedBy, commandOf, commandAt, comma
 use Rattle.trace.specs.Steps.{stepReply, bufferAfterStep, wordsAfterStep, machineAfterStep}
 use Rattle.line.specs.Text.{ascii, digit, digits, lengthWithin, decimalLength, decimal, hex}
 use Rattle.line.specs.Lines.{wordOf, headOf, lineOf}
+use Rattle.line.specs.Lines.{valueOf as lineValue}
 use Rattle.trace.specs.Traces.{linesOf as traceLines, startMachine, traceText}
 use Rattle.rows.specs.Rows.{signed, totalText, totalsText, rowOf, refusedText, unreadText}
 use Rattle.rows.specs.Rows.{rowHead}
@@ -56,10 +57,10 @@ use Rattle.examples.specs.Marked.{slotsOf, linear, selected, marked}
 use Rattle.examples.specs.Accesses.{row, rowAfter, kernelPage, openPage, rows, based, segments, tooWide, refusals}
 use Rattle.examples.specs.Conditions.{exceptions, globalEntry, highBits, hits}
 use Rattle.examples.specs.Calls.{short, caused, calls, largest, fields}
+use Rattle.examples.specs.Reads.{ones, upperBits, afterMissing, refilled, reads}
 use Rattle.examples.specs.Walks.{tables, good, shared, globalBroken, walks}
 use Rattle.examples.specs.Served.{machine, agedEntry, aged, reading, served}
 use Rattle.examples.specs.Stores.{entryOf, agreeing, sweeps, numbers, stores, guardedSettings}
-use Rattle.examples.specs.Reads.{ones, upperBits, afterMissing, refilled, reads}
 use Rattle.examples.specs.Ends.{last, ends}
 use Rattle.examples.specs.Sequences.{lent, fresh, worked, workedLines, strays, strayLines, outcomes}
 use Rattle.examples.specs.Sequences.{outcomeLines, sequences}
@@ -74,20 +75,20 @@ unfolding all count lowest vpnOf offsetOf location vpn15Of slotOf setOf unpack j
     vpn15Matches idMatchesOrGlobal matchesPage hit fieldsAt setHits hitCount hitSet segmentOf inLinearSegment nibble segmentBase
     linearAddress invExc accExc weExc writeError accessViolation invalidPage exceptionValue pageAddress isSet noException withCause
     exceptionAddress interrupts exceptionAnswer hitValue onHit byHitCount foundSet pageMapped translate rawRefusal rawReply startRefusal
-    startReply startedBuffer isRegister numberRefusal hiOf loOf entryFrom writeRefusal writtenEntry writtenBuffer writeReply bufferAfterWrite readRefusal readValue readReply lookAt Values
-    allComputed allOwed registersWith enabled enabledAfter started user supervisor replied entryWith oneEntry twoEntries slotsOf linear
-    selected marked row rowAfter kernelPage openPage rows based segments tooWide refusals exceptions globalEntry highBits hits short
-    caused calls largest fields ones upperBits afterMissing refilled reads tables good shared globalBroken walks vpnAt sameLow sameEntry leafValid leafKernel leafWe leafPfn
-    lengthFits tablesFit walkFault setMatches loadSlot loadedBuffer leafEntry isEmpty agreesWithLeaf agreesWithTables kept keptAt
-    settled sweptSlot sweptFirst swept emptied written indexFits storeRefusal storedWords storeReply bufferAfterStore wordsAfterStore
-    mayBeServed
-    servedRefusal outcomeOf triedReply missed loadedAt registersLoaded bufferLoaded afterMiss bufferAfterMiss firstTry walkFor accessReply
-    accessBuffer servedReply servedBuffer isGuarded switchFits settingRefusal argumentRefusal settingReply refusal accepted effectBy
-    requestOf effectOf leftBy callOn begun systemAfter callOf eventOf eventsOf linesOf machine agedEntry aged reading served entryOf
-    agreeing sweeps numbers stores guardedSettings last ends lent fresh worked workedLines strays strayLines outcomes outcomeLines sequences
-    bytesOf numberAt elementAt encoded kindOf userOf writeOf drawOf indexOf valueOf isPlain wellFormed settingNumbers settingOf accessOf
-    askedBy commandOf commandAt commandsFrom recordCount commandsOf stepReply bufferAfterStep wordsAfterStep machineAfterStep ascii digit
-    digits lengthWithin decimalLength decimal hex wordOf headOf lineOf lineValue traceLines startMachine traceText workedInput workedText
-    traces signed totalText totalsText rowHead rowOf refusedText unreadText totalAt booked within bookedWithin bookedAll gain hasColumn
-    faultColumn faultGains accessGains storeGains reports examples
+    startReply startedBuffer isRegister numberRefusal hiOf loOf entryFrom writeRefusal writtenEntry writtenBuffer writeReply
+    bufferAfterWrite readRefusal readValue readReply lookAt Values allComputed allOwed registersWith enabled enabledAfter started user
+    supervisor replied entryWith oneEntry twoEntries slotsOf linear selected marked row rowAfter kernelPage openPage rows based segments
+    tooWide refusals exceptions globalEntry highBits hits short caused calls largest fields ones upperBits afterMissing refilled reads
+    tables good shared globalBroken walks vpnAt sameLow sameEntry leafValid leafKernel leafWe leafPfn lengthFits tablesFit walkFault
+    setMatches loadSlot loadedBuffer leafEntry isEmpty agreesWithLeaf agreesWithTables kept keptAt settled sweptSlot sweptFirst swept
+    emptied written indexFits storeRefusal storedWords storeReply bufferAfterStore wordsAfterStore mayBeServed servedRefusal outcomeOf
+    triedReply missed loadedAt registersLoaded bufferLoaded afterMiss bufferAfterMiss firstTry walkFor accessReply accessBuffer servedReply
+    servedBuffer isGuarded switchFits settingRefusal argumentRefusal settingReply refusal accepted effectBy requestOf effectOf leftBy callOn
+    begun systemAfter callOf eventOf eventsOf linesOf machine agedEntry aged reading served entryOf agreeing sweeps numbers stores
+    guardedSettings last ends lent fresh worked workedLines strays strayLines outcomes outcomeLines sequences bytesOf numberAt elementAt
+    encoded kindOf userOf writeOf drawOf indexOf valueOf isPlain wellFormed settingNumbers settingOf accessOf askedBy commandOf commandAt
+    commandsFrom recordCount commandsOf stepReply bufferAfterStep wordsAfterStep machineAfterStep ascii digit digits lengthWithin
+    decimalLength decimal hex wordOf headOf lineOf lineValue traceLines startMachine traceText workedInput workedText traces signed
+    totalText totalsText rowHead rowOf refusedText unreadText totalAt booked within bookedWithin bookedAll gain hasColumn faultColumn
+    faultGains accessGains storeGains reports examples
 all-hold = refl

@@ -8,6 +8,13 @@ use registers::Outcome;
 use registers::Registers;
 use registers::Reply;
 
+// Register numbers.
+const SELECT: u32 = 6;
+
+const TLB_HI: u32 = 7;
+
+const TLB_LO: u32 = 8;
+
 // What an answer adds to the sum.
 fn worth(outcome: Outcome) -> u64 {
     match outcome {
@@ -110,12 +117,34 @@ fn run_stores(r: Registers, buffer: &mut [u64], words: &mut [u32], count: u32) -
     sum
 }
 
+// Scenario 4: looks at one slot after the other.
+fn run_looks(r: Registers, buffer: &mut [u64], count: u32) -> u64 {
+    let mut registers = r;
+    let mut sum: u64 = 0;
+    let mut i: u64 = 0;
+    while i < count as u64 {
+        let selected = control::write_register(registers, buffer, SELECT, (i % 64) as u32);
+        registers = selected.registers;
+        let high = control::read_register(registers, buffer, TLB_HI);
+        sum = counted(sum, high);
+        registers = high.registers;
+        let low = control::read_register(registers, buffer, TLB_LO);
+        sum = counted(sum, low);
+        registers = low.registers;
+        i += 1;
+    }
+    sum
+}
+
 fn run(r: Registers, buffer: &mut [u64], words: &mut [u32], scenario: u32, count: u32) -> u64 {
     if scenario == 0 {
         return run_raw(r, buffer, count);
     }
     if scenario == 3 {
         return run_stores(r, buffer, words, count);
+    }
+    if scenario == 4 {
+        return run_looks(r, buffer, count);
     }
     run_served(r, buffer, words, scenario, count)
 }
