@@ -10,11 +10,12 @@ use crate::table;
 use std::path::Path;
 use std::time::Duration;
 
-const SCENARIOS: [&str; 4] = [
+const SCENARIOS: [&str; 5] = [
     "raw access, hit",
     "served access, hit",
     "served access, miss with a load",
     "store into a full buffer, empties nothing",
+    "look: SELECT set, TLB_HI and TLB_LO read",
 ];
 
 const ROUNDS: usize = 11;

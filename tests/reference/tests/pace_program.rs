@@ -34,10 +34,10 @@ fn frames(pages: u64) -> u64 {
 
 #[test]
 fn nothing_is_added_for_no_calls() {
-    for scenario in 0..4 {
+    for scenario in 0..5 {
         assert_eq!(sum(scenario, 0), Some(0), "{scenario}");
     }
-    assert_eq!(sum(4, 0), None);
+    assert_eq!(sum(5, 0), None);
 }
 
 #[test]
@@ -60,4 +60,17 @@ fn every_access_of_80_pages_in_turn_is_a_load() {
 #[test]
 fn stores_of_software_bits_empty_nothing() {
     assert_eq!(sum(3, 100_000), Some(100_000));
+}
+
+#[test]
+fn looks_add_both_halves_of_each_entry() {
+    let looks = |slots: u64| -> u64 {
+        (0..slots)
+            .map(|page| (page * 64 + 5 + 1) + (0x28_0100 + page + 1))
+            .sum()
+    };
+    assert_eq!(sum(4, 1), Some(looks(1)));
+    assert_eq!(sum(4, 3), Some(looks(3)));
+    assert_eq!(sum(4, 64), Some(looks(64)));
+    assert_eq!(sum(4, 6400), Some(100 * looks(64)));
 }

@@ -73,6 +73,19 @@ impl Unit {
         self.take(reply)
     }
 
+    /// Both halves of the entry that a slot holds.
+    fn look(&mut self, slot: u32) -> u64 {
+        (_, self.registers) = write_register(self.registers, &mut self.buffer, SELECT, slot);
+        self.read(TLB_HI) + self.read(TLB_LO)
+    }
+
+    fn read(&self, number: u32) -> u64 {
+        match read_register(self.registers, &self.buffer, number) {
+            Ok(value) => u64::from(value) + 1,
+            Err(refusal) => worth(Outcome::Refused(refusal)),
+        }
+    }
+
     fn take(&mut self, reply: Reply) -> u64 {
         self.registers = reply.registers;
         worth(reply.outcome) + u64::from(reply.loads)
@@ -133,7 +146,8 @@ fn sum_of(scenario: u32, count: u32) -> io::Result<u64> {
             let (index, value) = restored(i);
             unit.store(index, value)
         }),
-        _ => return Err(Error::other("the scenario is 0 to 3")),
+        4 => sum(count, |i| unit.look(i % 64)),
+        _ => return Err(Error::other("the scenario is 0 to 4")),
     })
 }
 
