@@ -117,6 +117,14 @@ fn run_stores(r: Registers, buffer: &mut [u64], words: &mut [u32], count: u32) -
     sum
 }
 
+// What reads of TLB_HI and TLB_LO add to the sum.
+fn read_both(sum: u64, r: Registers, buffer: &[u64]) -> u64 {
+    let high = control::read_register(r, buffer, TLB_HI);
+    let registers = high.registers;
+    let low = control::read_register(registers, buffer, TLB_LO);
+    counted(counted(sum, high), low)
+}
+
 // Scenario 4: looks at one slot after the other.
 fn run_looks(r: Registers, buffer: &mut [u64], count: u32) -> u64 {
     let mut registers = r;
@@ -125,12 +133,7 @@ fn run_looks(r: Registers, buffer: &mut [u64], count: u32) -> u64 {
     while i < count as u64 {
         let selected = control::write_register(registers, buffer, SELECT, (i % 64) as u32);
         registers = selected.registers;
-        let high = control::read_register(registers, buffer, TLB_HI);
-        sum = counted(sum, high);
-        registers = high.registers;
-        let low = control::read_register(registers, buffer, TLB_LO);
-        sum = counted(sum, low);
-        registers = low.registers;
+        sum = read_both(sum, registers, buffer);
         i += 1;
     }
     sum

@@ -21,17 +21,8 @@ cast-write-register c = omega arith
 write-register-requires : tie.Need-write-register-requires Inv-loop μ-loop
 write-register-requires c κs = search needs
 
-read-register-requires : tie.Need-read-register-requires Inv-loop μ-loop
-read-register-requires c κs = search needs
-
-counted-requires : tie.Need-counted-requires Inv-loop μ-loop
-counted-requires c κs = search needs
-
-read-register-requires-2 : tie.Need-read-register-requires-2 Inv-loop μ-loop
-read-register-requires-2 c κs = search needs
-
-counted-requires-2 : tie.Need-counted-requires-2 Inv-loop μ-loop
-counted-requires-2 c κs = search needs
+read-both-requires : tie.Need-read-both-requires Inv-loop μ-loop
+read-both-requires c κs = search needs
 
 add-i : tie.Need-add-i Inv-loop μ-loop
 add-i c = omega arith
@@ -57,10 +48,7 @@ run-looks-spec =
     loop-holds
     cast-write-register
     write-register-requires
-    read-register-requires
-    counted-requires
-    read-register-requires-2
-    counted-requires-2
+    read-both-requires
     add-i
     loop-less
     loop-again
