@@ -22,14 +22,14 @@ module _ (slot vpn15 page-id : ℕ) (p : page-id < 2 ^ 6) where
   unfolding vpnAt
   vpn15-back v = omega arith
 
--- TLB_HI from an entry's parts, which leave room
-module _ (slot e vpn15 page-id : ℕ) (v : vpn15 ≡ (unpack e) .vpn15) (p : page-id ≡ (unpack e) .«page_id») where
+-- the parts that the code takes are within their bits, and make up TLB_HI
+module _ (e vpn15 page-id : ℕ) (v : vpn15 ≡ (unpack e) .vpn15) (p : page-id ≡ (unpack e) .«page_id») where
   pub parts-lt : (vpn15 < 2 ^ 15) × (page-id < 2 ^ 6)
   parts-lt = let f = unpack-fits e in (omega (arith, v, f .vpn15-fits), omega (arith, p, f .page-id-fits))
 
-  pub hi-is : (16 * vpn15 + slot % 16) * 64 + page-id ≡ hiOf slot e
+  pub hi-is : (slot : ℕ) → (16 * vpn15 + slot % 16) * 64 + page-id ≡ hiOf slot e
   unfolding hiOf vpnAt
-  hi-is = rw (v, p)
+  hi-is slot = rw (v, p)
 
 pub hi-lt : (slot e : ℕ) → hiOf slot e < 2 ^ 25
 unfolding hiOf vpnAt

@@ -16,17 +16,17 @@ use Rattle.control.specs.Numbers.{isRegister, numberRefusal}
 pub record NumberAccepted (r : Registers) (b : Buffer) (number : ℕ) : Type 0 where
   pub registers-fit : registersFit r ≡ true
   pub buffer-fits : bufferFits b ≡ true
-  pub number-lt : number < 10
+  pub is-register : isRegister number ≡ true
 
-pub number-lt-10 : (number : ℕ) → isRegister number ≡ true → number < 10
+pub number-lt : {r : Registers} {b : Buffer} {number : ℕ} → NumberAccepted r b number → number < 10
 unfolding isRegister
-number-lt-10 number h = ltb-true number 10 h
+number-lt {number = number} a = ltb-true number 10 (a .is-register)
 
 pub select-lt : (r : Registers) → registersFit r ≡ true → r .select < 64
 unfolding field toWords widths
 select-lt r h = fits-place r 6 h (lit< tt)
 
--- the later checks decide exactly where the first three pass
+-- a refusal by the first three checks stands whatever the later ones say
 stays : (one two seven : Bool) (later n : ℕ) → n ≡ refuseUnless one 1 (refuseUnless two 2 (refuseUnless seven 7 0)) → (n ≡ 0 → ⊥)
     → n ≡ refuseUnless one 1 (refuseUnless two 2 (refuseUnless seven 7 later))
 unfolding refuseUnless
@@ -41,17 +41,17 @@ module _ (r : Registers) (b : Buffer) (number later : ℕ) where
   number-passed h =
       let one = passed (registersFit r) 1 _ (λ e. omega arith) h in
       let two = passed (bufferFits b) 2 _ (λ e. omega arith) (one .1) in
-      let known = passed (isRegister number) 7 _ (λ e. omega arith) (two .1) in
-      (record { registers-fit = one .0; buffer-fits = two .0; number-lt = number-lt-10 number (known .0) }, known .1)
+      let seven = passed (isRegister number) 7 _ (λ e. omega arith) (two .1) in
+      (record { registers-fit = one .0; buffer-fits = two .0; is-register = seven .0 }, seven .1)
 
   pub number-refused : (n : ℕ) → n ≡ numberRefusal r b number 0 → (n ≡ 0 → ⊥) → n ≡ numberRefusal r b number later
   unfolding numberRefusal
   number-refused n e h = stays (registersFit r) (bufferFits b) (isRegister number) later n e h
 
-  pub number-later : (n x : ℕ) → n ≡ numberRefusal r b number 0 → n ≡ 0 → x ≡ later → x ≡ numberRefusal r b number later
-  unfolding numberRefusal refuseUnless
-  number-later n x e z q =
-      let one = passed (registersFit r) 1 _ (λ y. omega arith) (sym e ∙ z) in
-      let two = passed (bufferFits b) 2 _ (λ y. omega arith) (one .1) in
-      let known = passed (isRegister number) 7 _ (λ y. omega arith) (two .1) in
-      q ∙ sym (rw (one .0, two .0, known .0))
+-- where they pass, the later ones decide
+pub number-later : (r : Registers) (b : Buffer) (number later n x : ℕ) → n ≡ numberRefusal r b number 0 → n ≡ 0 → x ≡ later
+    → x ≡ numberRefusal r b number later
+unfolding numberRefusal refuseUnless
+number-later r b number later n x e z q =
+    let a = number-passed r b number 0 (sym e ∙ z) .0 in
+    q ∙ sym (rw (a .registers-fit, a .buffer-fits, a .is-register))

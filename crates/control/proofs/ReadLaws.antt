@@ -27,11 +27,11 @@ entry-there r b number h =
 module _ (r : Registers) (b : Buffer) (number v : ℕ) where
   pub reads-hi : (e : ℕ) → number ≡ 7 → e ≡ slotAt b (r .select) → v ≡ hiOf (r .select) e → v ≡ readValue r b number
   unfolding readValue
-  reads-hi e n s q = q ∙ rw s (sym (rw (eq-eqb number 7 n)))
+  reads-hi e n s q = rw n (q ∙ ap (hiOf (r .select)) s)
 
-  pub reads-lo : (e : ℕ) → (number ≡ 7 → ⊥) → number ≡ 8 → e ≡ slotAt b (r .select) → v ≡ loOf e → v ≡ readValue r b number
+  pub reads-lo : (e : ℕ) → number ≡ 8 → e ≡ slotAt b (r .select) → v ≡ loOf e → v ≡ readValue r b number
   unfolding readValue
-  reads-lo e m n s q = q ∙ rw s (sym (rw (ne-eqb number 7 m, eq-eqb number 8 n)))
+  reads-lo e n s q = rw n (q ∙ ap loOf s)
 
   pub reads-field : (number ≡ 7 → ⊥) → (number ≡ 8 → ⊥) → v ≡ field r number → v ≡ readValue r b number
   unfolding readValue

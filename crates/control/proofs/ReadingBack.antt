@@ -28,7 +28,7 @@ use Rattle.control.proofs.CallLaws.{low-lt, write-accepted, write-gives
 use Rattle.control.proofs.HalvesLaws.{hi-lt, lo-lt, hi-location, entry-back, hi-from, lo-from}
 use Rattle.control.proofs.ReadLaws.{read-gives}
 
--- over registers and a buffer that fit, SELECT is set and a register is read
+-- over registers and a buffer that fit, SELECT and TLB_LO are written and a register is read
 module _ (r : Registers) (b : Buffer) (f : registersFit r ≡ true) (g : bufferFits b ≡ true) where
   select-accepted : (slot : ℕ) → slot < 64 → writeRefusal r b SELECT slot ≡ 0
   unfolding writeRefusal numberRefusal refuseUnless isRegister fitsAt widths
@@ -37,6 +37,14 @@ module _ (r : Registers) (b : Buffer) (f : registersFit r ≡ true) (g : bufferF
   select-reply : (slot : ℕ) → slot < 64 → writeReply r b SELECT slot ≡ done (put r SELECT slot) 0
   unfolding writeReply byRefusal
   select-reply slot l = rw (select-accepted slot l)
+
+  lo-accepted : (value : ℕ) → fitsAt TLB_LO value ≡ true → writeRefusal r b TLB_LO value ≡ 0
+  unfolding writeRefusal numberRefusal refuseUnless isRegister
+  lo-accepted value h = rw (f, g, h)
+
+  lo-written : (value : ℕ) → fitsAt TLB_LO value ≡ true → writeReply r b TLB_LO value ≡ done (put r TLB_LO value) 0
+  unfolding writeReply byRefusal
+  lo-written value h = rw (lo-accepted value h)
 
   select-buffer : (slot : ℕ) → slot < 64 → bufferAfterWrite r b SELECT slot ≡ b
   unfolding bufferAfterWrite byRefusal writtenBuffer
@@ -69,7 +77,7 @@ lo-value r b slot = refl
 -- a look shows the slot's entry
 look-shows : (r : Registers) (b : Buffer) (slot : ℕ) (l : Look) → registersFit r ≡ true → bufferFits b ≡ true → slot < 64
     → LookedAt r b slot l → Shows r b slot (hiOf slot (slotAt b slot)) (loOf (slotAt b slot)) l
-look-shows r b slot l f g lt k = record { high-is = high-is; low-is = low-is; buffer-stays = buffer-stays }
+look-shows r b slot l f g lt k = record { hi-is = hi-is; lo-is = lo-is; buffer-stays = buffer-stays }
   where
     q : Registers
     q = put r SELECT slot
@@ -77,7 +85,7 @@ look-shows r b slot l f g lt k = record { high-is = high-is; low-is = low-is; bu
     buffer-stays : l .buffer ≡ b
     buffer-stays = k .select-written .buffer-is ∙ select-buffer r b f g slot lt
 
-    selected : l .selected .registers ≡ q
+    selected : l .select-reply .registers ≡ q
     selected = ap (λ (s : Reply). s .registers) (k .select-written .reply-is ∙ select-reply r b f g slot lt)
 
     read : (number : ℕ) → isRegister number ≡ true → (given : Registers) → given ≡ q → (reply : Reply)
@@ -86,12 +94,12 @@ look-shows r b slot l f g lt k = record { high-is = high-is; low-is = low-is; bu
         h .reply-is ∙ ap (λ (p : Registers). readReply p (l .buffer) number) e ∙ ap (λ (c : Buffer). readReply q c number) buffer-stays
         ∙ read-reply q b (put-fits r SELECT slot f (select-fits slot lt)) g number known
 
-    high-is : l .high ≡ done q (hiOf slot (slotAt b slot))
-    high-is = read TLB_HI is-tlb-hi _ selected _ (k .tlb-hi-read) ∙ ap (done q) (hi-value r b slot)
+    hi-is : l .hi-reply ≡ done q (hiOf slot (slotAt b slot))
+    hi-is = read TLB_HI is-tlb-hi _ selected _ (k .hi-read) ∙ ap (done q) (hi-value r b slot)
 
-    low-is : l .low ≡ done q (loOf (slotAt b slot))
-    low-is =
-        read TLB_LO is-tlb-lo _ (ap (λ (s : Reply). s .registers) high-is) _ (k .tlb-lo-read) ∙ ap (done q) (lo-value r b slot)
+    lo-is : l .lo-reply ≡ done q (loOf (slotAt b slot))
+    lo-is =
+        read TLB_LO is-tlb-lo _ (ap (λ (s : Reply). s .registers) hi-is) _ (k .lo-read) ∙ ap (done q) (lo-value r b slot)
 
 -- the slot that an accepted write to TLB_LO leaves
 module _ (r : Registers) (b after : Buffer) (value : ℕ) (reply : Reply) (w : WriteGives r b after TLB_LO value reply)
@@ -138,8 +146,8 @@ written-is-read r b after value reply w a later now f g same l k =
     let lt = value-lt r b after value reply w a in
     let shows = look-shows later now (r .select) l f g (select-lt r (handed r b after value reply w a .registers-fit)) k in
     record {
-      high-is = shows .high-is ∙ ap (done _) (ap (hiOf (r .select)) entry ∙ hi-from (r .select) (r .«tlb_hi») value lt);
-      low-is = shows .low-is ∙ ap (done _) (ap loOf entry ∙ lo-from (r .select) (r .«tlb_hi») value lt);
+      hi-is = shows .hi-is ∙ ap (done _) (ap (hiOf (r .select)) entry ∙ hi-from (r .select) (r .«tlb_hi») value lt);
+      lo-is = shows .lo-is ∙ ap (done _) (ap loOf entry ∙ lo-from (r .select) (r .«tlb_hi») value lt);
       buffer-stays = shows .buffer-stays;
     }
 
@@ -152,13 +160,13 @@ written-is-read-at-once r b after value reply w a l k =
 -- the registers that a look leaves lead to the same looks
 shows-slot : (r q : Registers) (b : Buffer) (slot : ℕ) (l : Look) → ((s : ℕ) → put q SELECT s ≡ put r SELECT s)
     → Shows q b slot (hiOf slot (slotAt b slot)) (loOf (slotAt b slot)) l → ShowsSlot r b slot l
-unfolding fitsAt widths
+unfolding fitsAt widths entryFrom
 shows-slot r q b slot l same k = record {
   hi = hiOf slot (slotAt b slot);
   lo = loOf (slotAt b slot);
   shows = record {
-    high-is = k .high-is ∙ ap (λ (p : Registers). done p (hiOf slot (slotAt b slot))) (same slot);
-    low-is = k .low-is ∙ ap (λ (p : Registers). done p (loOf (slotAt b slot))) (same slot);
+    hi-is = k .hi-is ∙ ap (λ (p : Registers). done p (hiOf slot (slotAt b slot))) (same slot);
+    lo-is = k .lo-is ∙ ap (λ (p : Registers). done p (loOf (slotAt b slot))) (same slot);
     buffer-stays = k .buffer-stays;
   };
   hi-fits = lt-ltb _ _ (hi-lt slot (slotAt b slot));
@@ -177,22 +185,33 @@ dump-shows r q b f g same slot (l ∷ ls) le k =
       shows-slot r q b slot l same shows,
       dump-shows r (put q SELECT slot) b (put-fits q SELECT slot f (select-fits slot lt)) g (λ s. put-again q SELECT slot s ∙ same s)
           (suc slot) ls (omega arith)
-          (subst (λ (p : Registers). Dump p b (suc slot) ls) (ap (λ (s : Reply). s .registers) (shows .low-is))
-          (subst (λ (c : Buffer). Dump (l .low .registers) c (suc slot) ls) (shows .buffer-stays) (k .1))),
+          (subst (λ (p : Registers). Dump p b (suc slot) ls) (ap (λ (s : Reply). s .registers) (shows .lo-is))
+          (subst (λ (c : Buffer). Dump (l .lo-reply .registers) c (suc slot) ls) (shows .buffer-stays) (k .1))),
     )
 
 pub dump-is-the-buffer : DumpIsTheBuffer
 unfolding DumpIsTheBuffer
 dump-is-the-buffer r b f g looks n k = dump-shows r r b f g (λ s. refl) 0 looks (omega arith) k
 
--- no statement is empty: there is a look at every slot, and a dump of every buffer
+-- no statement is empty: there is a look at every slot, a write of every value, and a dump of every buffer
 pub looked : (r : Registers) (b : Buffer) (slot : ℕ) → LookedAt r b slot (lookAt r b slot)
 unfolding lookAt
 looked r b slot = record {
   select-written = write-gives _ _ _ _ _ _ refl refl;
-  tlb-hi-read = read-gives _ _ _ _ refl;
-  tlb-lo-read = read-gives _ _ _ _ refl;
+  hi-read = read-gives _ _ _ _ refl;
+  lo-read = read-gives _ _ _ _ refl;
 }
+
+-- every write to TLB_LO that fits is accepted, and read back
+pub every-write-read : (r : Registers) (b : Buffer) (value : ℕ) → registersFit r ≡ true → bufferFits b ≡ true
+    → fitsAt TLB_LO value ≡ true
+    → Shows (put r TLB_LO value) (bufferAfterWrite r b TLB_LO value) (r .select) (hiWritten r) value
+    (lookAt (put r TLB_LO value) (bufferAfterWrite r b TLB_LO value) (r .select))
+unfolding WrittenIsReadAtOnce refusalOf
+every-write-read r b value f g h =
+    written-is-read-at-once r b (bufferAfterWrite r b TLB_LO value) value (done (put r TLB_LO value) 0)
+    (write-gives r b _ TLB_LO value _ (sym (lo-written r b f g value h)) refl) refl _
+    (looked (put r TLB_LO value) (bufferAfterWrite r b TLB_LO value) (r .select))
 
 dumped : (r : Registers) (b : Buffer) (slot count : ℕ) → Dump r b slot (dumpFrom r b slot count)
 unfolding Dump dumpFrom

@@ -4,7 +4,7 @@ ghost use mathlib.Core.Path.{_≡_};
 ghost use Rattle.registers.specs.Fields.{fitsAt, registersFit};
 ghost use Rattle.slots.specs.Buffer.{Buffer, bufferFits};
 ghost use Rattle.control.specs.Starting.{StartGives, startRefusal};
-ghost use Rattle.control.specs.Numbers.{isRegister};
+ghost use Rattle.control.specs.Numbers.{isRegister, numberRefusal};
 ghost use Rattle.control.specs.Halves.{hiOf, loOf};
 ghost use Rattle.control.specs.Writing.{WriteGives, writeRefusal, writtenBuffer};
 ghost use Rattle.control.specs.Reading.{ReadGives, readRefusal, readValue};
@@ -38,9 +38,9 @@ fn is_register(number: u32) -> bool
     number < 10
 }
 
-// A read is refused for its registers, its buffer or its number.
-fn read_refusal(r: Registers, buffer: &[u64], number: u32) -> u32
-    ensures { λ n. ⌜ n ≡ readRefusal r (Buffer.Wide (now (buffer .entry))) number ⌝ }
+// What a read and a write are refused for in common: registers, buffer, number.
+fn number_refusal(r: Registers, buffer: &[u64], number: u32) -> u32
+    ensures { λ n. ⌜ n ≡ numberRefusal r (Buffer.Wide (now (buffer .entry))) number 0 ⌝ }
 {
     if !registers::registers_fit(r) {
         return 1;
@@ -54,11 +54,11 @@ fn read_refusal(r: Registers, buffer: &[u64], number: u32) -> u32
     0
 }
 
-// A write is refused as a read is, and for a value too large.
+// A write is refused for a value too large, too.
 fn write_refusal(r: Registers, buffer: &[u64], number: u32, value: u32) -> u32
     ensures { λ n. ⌜ n ≡ writeRefusal r (Buffer.Wide (now (buffer .entry))) number value ⌝ }
 {
-    let refusal = read_refusal(r, buffer, number);
+    let refusal = number_refusal(r, buffer, number);
     if refusal != 0 {
         return refusal;
     }
@@ -94,7 +94,7 @@ pub fn write_register(r: Registers, buffer: &mut [u64], number: u32, value: u32)
 }
 
 // TLB_HI of the entry at SELECT: its vpn, of which SELECT gives the location, and its page_id.
-fn hi_of(r: Registers, e: u64) -> u32
+fn hi_at_select(r: Registers, e: u64) -> u32
     ensures { λ v. ⌜ v ≡ hiOf (r .select) e ⌝ }
 {
     let vpn15 = entry::vpn15_of(e);
@@ -115,20 +115,18 @@ fn read_value(r: Registers, buffer: &[u64], number: u32) -> u32
     ensures { λ v. ⌜ v ≡ readValue r (Buffer.Wide (now (buffer .entry))) number ⌝ }
 {
     let e = slots::slot_at(buffer, r.select);
-    if number == TLB_HI {
-        return hi_of(r, e);
+    match number {
+        TLB_HI => hi_at_select(r, e),
+        TLB_LO => lo_of(e),
+        _ => registers::field(r, number),
     }
-    if number != TLB_LO {
-        return registers::field(r, number);
-    }
-    lo_of(e)
 }
 
 // Reads a register: the outcome is Done with its value. Registers and buffer stay.
 pub fn read_register(r: Registers, buffer: &[u64], number: u32) -> Reply
     ensures { λ s. ⌜ ReadGives r (Buffer.Wide (now (buffer .entry))) number s ⌝ }
 {
-    let refusal = read_refusal(r, buffer, number);
+    let refusal = number_refusal(r, buffer, number);
     if refusal != 0 {
         return registers::refused(r, refusal);
     }

@@ -52,12 +52,12 @@ use Rattle.report.specs.Totals.{totalAt, booked, within, bookedWithin, bookedAl
 use Rattle.report.specs.Gains.{gain, hasColumn, faultColumn, faultGains, accessGains, storeGains}
 use Rattle.examples.specs.Claims.{Values, allComputed, allOwed}
 use Rattle.examples.specs.Scene.{registersWith, enabled, enabledAfter, started, user, supervisor, replied, entryWith, oneEntry}
-use Rattle.examples.specs.Scene.{twoEntries}
+use Rattle.examples.specs.Scene.{ones, twoEntries}
 use Rattle.examples.specs.Marked.{slotsOf, linear, selected, marked}
 use Rattle.examples.specs.Accesses.{row, rowAfter, kernelPage, openPage, rows, based, segments, tooWide, refusals}
 use Rattle.examples.specs.Conditions.{exceptions, globalEntry, highBits, hits}
 use Rattle.examples.specs.Calls.{short, caused, calls, largest, fields}
-use Rattle.examples.specs.Reads.{ones, upperBits, afterMissing, refilled, reads}
+use Rattle.examples.specs.Reads.{distinct, upperBits, afterMissing, refilled, reads}
 use Rattle.examples.specs.Walks.{tables, good, shared, globalBroken, walks}
 use Rattle.examples.specs.Served.{machine, agedEntry, aged, reading, served}
 use Rattle.examples.specs.Stores.{entryOf, agreeing, sweeps, numbers, stores, guardedSettings}
@@ -78,7 +78,7 @@ unfolding all count lowest vpnOf offsetOf location vpn15Of slotOf setOf unpack j
     startReply startedBuffer isRegister numberRefusal hiOf loOf entryFrom writeRefusal writtenEntry writtenBuffer writeReply
     bufferAfterWrite readRefusal readValue readReply lookAt Values allComputed allOwed registersWith enabled enabledAfter started user
     supervisor replied entryWith oneEntry twoEntries slotsOf linear selected marked row rowAfter kernelPage openPage rows based segments
-    tooWide refusals exceptions globalEntry highBits hits short caused calls largest fields ones upperBits afterMissing refilled reads
+    tooWide refusals exceptions globalEntry highBits hits short caused calls largest fields ones distinct upperBits afterMissing refilled reads
     tables good shared globalBroken walks vpnAt sameLow sameEntry leafValid leafKernel leafWe leafPfn lengthFits tablesFit walkFault
     setMatches loadSlot loadedBuffer leafEntry isEmpty agreesWithLeaf agreesWithTables kept keptAt settled sweptSlot sweptFirst swept
     emptied written indexFits storeRefusal storedWords storeReply bufferAfterStore wordsAfterStore mayBeServed servedRefusal outcomeOf

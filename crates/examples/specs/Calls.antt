@@ -14,7 +14,7 @@ use Rattle.mmu.specs.RawAccess.{rawReply}
 use Rattle.control.specs.Starting.{startReply, startedBuffer}
 use Rattle.control.specs.Writing.{writeReply, bufferAfterWrite}
 use Rattle.examples.specs.Claims.{Example, _gives_}
-use Rattle.examples.specs.Scene.{reg, registersWith, enabledAfter, started, user, replied}
+use Rattle.examples.specs.Scene.{reg, registersWith, enabledAfter, started, ones, user, replied, pageLow}
 use Rattle.examples.specs.Marked.{selected}
 use Rattle.examples.specs.Accesses.{tooWide}
 
@@ -50,10 +50,10 @@ calls =
     -- a refused write touches no slot, and an accepted one touches no other, whatever stood above bit 43
     ∷ (writeReply caused started TLB_LO 0x800000 gives refused caused 7)
     ∷ (bufferAfterWrite caused started TLB_LO 0x800000 gives started)
-    ∷ (bufferAfterWrite caused (Wide (replicate 64 0xFFFFFFFFFFFFFFFF)) TLB_LO 0x7fffff
+    ∷ (bufferAfterWrite caused ones TLB_LO 0x7fffff
     gives Wide (set (replicate 64 0xFFFFFFFFFFFFFFFF) 63 (3 * 8388608 + 0x7fffff)))
     -- the entry of marked example 13 does not answer for the vpn that stood in TLB_HI
-    ∷ (rawReply selected (bufferAfterWrite selected started TLB_LO 0x00280077) (user true (0x12345 * 8192) 0)
+    ∷ (rawReply selected (bufferAfterWrite selected started TLB_LO pageLow) (user true (0x12345 * 8192) 0)
     gives replied None true true 8 (enabledAfter 5 0 5 0x12345 17))
     ∷ []
 

@@ -14,7 +14,7 @@ use Rattle.mmu.specs.RawAccess.{rawReply}
 use Rattle.mmu.specs.ServedAccess.{servedBuffer}
 use Rattle.examples.specs.Claims.{Example, _gives_}
 use Rattle.examples.specs.Scene.{reg, registersWith, enabled, enabledAfter, started, user, supervisor, replied}
-use Rattle.examples.specs.Scene.{oneEntry, twoEntries, pageVpn, pageByte, frameByte}
+use Rattle.examples.specs.Scene.{pageLow, oneEntry, twoEntries, pageVpn, pageByte, frameByte}
 use Rattle.examples.specs.Walks.{good}
 use Rattle.examples.specs.Served.{machine, reading}
 
@@ -57,6 +57,6 @@ marked =
     -- 12: two matching valid entries
     ∷ (rawReply (enabled 5 7) twoEntries (user true pageByte 2) gives replied None true true 0 (enabledAfter 5 7 0 pageVpn 1))
     -- 13: the entry stored at slot 18 answers for vpn 12342 hex
-    ∷ (rawReply selected (bufferAfterWrite selected started TLB_LO 0x00280077) (user true pageByte 0)
+    ∷ (rawReply selected (bufferAfterWrite selected started TLB_LO pageLow) (user true pageByte 0)
     gives replied (Address frameByte) false false 0 selected)
     ∷ []

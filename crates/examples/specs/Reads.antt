@@ -14,15 +14,19 @@ use Rattle.control.specs.Writing.{bufferAfterWrite}
 use Rattle.control.specs.Reading.{readReply}
 use Rattle.control.specs.ReadingBack.{lookAt}
 use Rattle.examples.specs.Claims.{Example, _gives_}
-use Rattle.examples.specs.Scene.{enabled, enabledAfter, started, user, replied, entryWith, oneEntry, pageVpn, pageByte}
+use Rattle.examples.specs.Scene.{reg, registersWith, enabled, enabledAfter, started, ones, user, replied}
+use Rattle.examples.specs.Scene.{entryWith, pageLow, oneEntry, pageVpn, pageByte}
 use Rattle.examples.specs.Marked.{selected}
 use Rattle.examples.specs.Accesses.{tooWide}
 use Rattle.examples.specs.Calls.{short, caused, largest}
 
--- every slot with all 64 bits set, and with bits 44 and up alone
-unfoldable pub ones : Buffer
-ones = Wide (replicate 64 0xFFFFFFFFFFFFFFFF)
+-- registers with different values
+unfoldable pub distinct : Registers
+distinct =
+    registersWith
+    (reg KSEG 0xFEDC ∷ reg CTRL 5 ∷ reg ENABLE 1 ∷ reg KBASE_LO 0x87654321 ∷ reg KBASE_HI 0x12345678 ∷ reg CONTEXT 9 ∷ reg SELECT 18 ∷ [])
 
+-- every slot with bits 44 and up alone
 unfoldable pub upperBits : Buffer
 upperBits = Wide (replicate 64 0xFFFFF00000000000)
 
@@ -32,7 +36,7 @@ afterMissing = enabledAfter 5 7 34 pageVpn 17
 
 -- the buffer when the student has then stored the page's entry
 unfoldable pub refilled : Buffer
-refilled = bufferAfterWrite afterMissing started TLB_LO 0x00280077
+refilled = bufferAfterWrite afterMissing started TLB_LO pageLow
 
 unfoldable pub reads : List Example
 reads =
@@ -42,7 +46,7 @@ reads =
     -- an entry written from the cause's vpn 7 at slot 63 has location 15
     ∷ (readReply caused (bufferAfterWrite caused started TLB_LO 0x7fffff) TLB_HI gives done caused (15 * 64 + 3))
     ∷ (readReply caused (bufferAfterWrite caused started TLB_LO 0x7fffff) TLB_LO gives done caused 0x7fffff)
-    -- not what was last written: TLB_LO holds 7FFFFF, the slot 1
+    -- not what was last written: the field of TLB_LO holds 7FFFFF, the slot holds 1
     ∷ (readReply largest (Wide (replicate 64 1)) TLB_LO gives done largest 1)
     -- the 44 bits at their ends; bits 44 and up are ignored
     ∷ (readReply largest ones TLB_HI gives done largest 0x1FFFFFF)
@@ -50,30 +54,30 @@ reads =
     ∷ (readReply largest upperBits TLB_HI gives done largest (15 * 64))
     ∷ (readReply largest upperBits TLB_LO gives done largest 0)
     -- every other number gives its own field
-    ∷ (readReply largest ones KSEG gives done largest 0xFFFF)
-    ∷ (readReply largest ones CTRL gives done largest 7)
-    ∷ (readReply largest ones ENABLE gives done largest 1)
-    ∷ (readReply largest ones KBASE_LO gives done largest 0xFFFFFFFF)
-    ∷ (readReply largest ones KBASE_HI gives done largest 0xFFFFFFFF)
-    ∷ (readReply largest ones CONTEXT gives done largest 63)
-    ∷ (readReply largest ones SELECT gives done largest 63)
+    ∷ (readReply distinct ones KSEG gives done distinct 0xFEDC)
+    ∷ (readReply distinct ones CTRL gives done distinct 5)
+    ∷ (readReply distinct ones ENABLE gives done distinct 1)
+    ∷ (readReply distinct ones KBASE_LO gives done distinct 0x87654321)
+    ∷ (readReply distinct ones KBASE_HI gives done distinct 0x12345678)
+    ∷ (readReply distinct ones CONTEXT gives done distinct 9)
+    ∷ (readReply distinct ones SELECT gives done distinct 18)
+    ∷ (readReply distinct ones TEST gives done distinct 0)
     ∷ (readReply largest ones TEST gives done largest 1)
-    ∷ (readReply caused started TEST gives done caused 0)
     -- refusals 1, 2 and 7 in this order; 2 for every number
     ∷ (readReply tooWide short 10 gives refused tooWide 1)
     ∷ (readReply caused short 10 gives refused caused 2)
     ∷ (readReply caused short KSEG gives refused caused 2)
     ∷ (readReply caused started 10 gives refused caused 7)
-    -- after an exception TLB_HI and the cause hold the page that missed, and a read gives the slot that SELECT names
+    -- after an exception the fields tlb_hi and cause hold the page that missed, and a read gives the slot that SELECT names
     ∷ (rawReply (enabled 5 7) started (user true pageByte 2) gives replied None true true 8 afterMissing)
     ∷ (readReply afterMissing started TLB_HI gives done afterMissing ((16 * 2 + 2) * 64 + 63))
     -- a write to TLB_LO still uses the cause's vpn and page_id, and is then read
     ∷ (slotAt refilled 34 gives entryWith true false true)
     ∷ (readReply afterMissing refilled TLB_HI gives done afterMissing (pageVpn * 64 + 5))
-    ∷ (readReply afterMissing refilled TLB_LO gives done afterMissing 0x00280077)
+    ∷ (readReply afterMissing refilled TLB_LO gives done afterMissing pageLow)
     -- looks at slots: an empty one, the page's entry, and marked example 13, written with vpn 12345 hex
-    ∷ ((lookAt caused started 16) .high gives done (put caused SELECT 16) (16 * 64 + 63))
-    ∷ ((lookAt caused (oneEntry true false true) 18) .high gives done (put caused SELECT 18) (pageVpn * 64 + 5))
-    ∷ ((lookAt caused (oneEntry true false true) 18) .low gives done (put caused SELECT 18) 0x00280077)
-    ∷ ((lookAt selected (bufferAfterWrite selected started TLB_LO 0x00280077) 18) .high gives done selected (0x12342 * 64 + 5))
+    ∷ ((lookAt caused started 16) .hi-reply gives done (put caused SELECT 16) (16 * 64 + 63))
+    ∷ ((lookAt caused (oneEntry true false true) 18) .hi-reply gives done (put caused SELECT 18) (pageVpn * 64 + 5))
+    ∷ ((lookAt caused (oneEntry true false true) 18) .lo-reply gives done (put caused SELECT 18) pageLow)
+    ∷ ((lookAt selected (bufferAfterWrite selected started TLB_LO pageLow) 18) .hi-reply gives done selected (0x12342 * 64 + 5))
     ∷ []

@@ -37,6 +37,10 @@ enabledAfter context ctrl select vpn cause =
 unfoldable pub started : Buffer
 started = startBuffer (Wide (replicate 64 0x123456789abcdef0))
 
+-- every slot with all 64 bits set
+unfoldable pub ones : Buffer
+ones = Wide (replicate 64 0xFFFFFFFFFFFFFFFF)
+
 -- an access to an address
 unfoldable pub user : (write : Bool) (address draw : ℕ) → Access
 user write address draw = record { address = address; user = true; write = write; draw = draw }
@@ -53,6 +57,10 @@ replied physical interrupt exception value after =
 unfoldable pub entryWith : (valid kernel we : Bool) → ℕ
 entryWith valid kernel we =
     pack (record { vpn15 = 0x1234; «page_id» = 5; global = false; valid = valid; kernel = kernel; we = we; pfn = 0x77 })
+
+-- its low 23 bits where it is valid with we, and no kernel page
+abbrev pub pageLow : ℕ
+pageLow = 0x00280077
 
 -- it stands in set 1, slot 18; and a second one in set 3, slot 50
 unfoldable pub oneEntry : (valid kernel we : Bool) → Buffer

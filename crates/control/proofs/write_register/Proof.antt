@@ -4,6 +4,7 @@ use Rattle.registers.proofs.RefusalLaws.{when-accepted, when-refused}
 use Rattle.registers.specs.Replies.{refused, done}
 use Rattle.registers.specs.declared.Registers.{Registers}
 use Rattle.control.specs.Writing.{writeReply, bufferAfterWrite}
+use Rattle.control.proofs.NumberLaws.{number-lt}
 use Rattle.control.proofs.CallLaws.{write-gives, write-accepted}
 use borrow.Author.Needs.{needs}
 use Rattle.control.proofs.write_register.Statement.{statement}
@@ -30,7 +31,7 @@ write-buffer-requires c κs = let w = write-accepted _ _ _ _ (sym (c .before .be
 
 put-requires : tie.Need-put-requires
 put-requires c κs = let w = write-accepted _ _ _ _ (sym (c .before .before .before .before .before .write-refusal .ensures)
-    ∙ c .before .before .before .before .if1 .left) in omega (arith, w .0 .number-lt)
+    ∙ c .before .before .before .before .if1 .left) in omega (arith, number-lt (w .0))
 
 done-requires : tie.Need-done-requires
 done-requires c κs = search needs
