@@ -2,7 +2,7 @@
 use Prim.Native.Nat.{ℕ, _<_}
 use mathlib.Core.Path.{_≡_, sym, ap, _∙_}
 use mathlib.Core.Bool.{true}
-use borrow.Author.Tests.{eq-eqb, ne-eqb}
+use borrow.Author.Tests.{ne-eqb}
 use Rattle.registers.specs.Fields.{field}
 use Rattle.registers.specs.Replies.{refusalOf}
 use Rattle.registers.proofs.RefusalLaws.{reply-refusal}
@@ -41,6 +41,6 @@ module _ (r : Registers) (b : Buffer) (number v : ℕ) where
 pub read-gives : (r : Registers) (b : Buffer) (number : ℕ) (reply : Reply) → reply ≡ readReply r b number → ReadGives r b number reply
 unfolding readReply
 read-gives r b number reply q = record {
-  refusal-is = ap (λ (s : Reply). refusalOf (s .outcome)) q ∙ reply-refusal (readRefusal r b number) (readValue r b number) r r;
+  refusal-is = ap (λ (s : Reply). refusalOf (s .outcome)) q ∙ reply-refusal (readRefusal r b number) _ _ r;
   reply-is = q;
 }

@@ -9,7 +9,7 @@ join-requires : tie.Need-join-requires
 join-requires c κs = (omega arith, omega arith, low-lt _ _ (c .if1 .taken) (c .before .before .pre .2))
 
 put-slot-requires : tie.Need-put-slot-requires
-put-slot-requires c κs = (c .before .before .before .before .pre .1, select-lt _ (c .before .before .before .before .pre .0))
+put-slot-requires c κs = (c .before .before .before .before .pre .1, omega (arith, select-lt _ (c .before .before .before .before .pre .0)))
 
 same-length : tie.Need-same-length
 same-length c = search needs
