@@ -54,7 +54,7 @@ fn number_refusal(r: Registers, buffer: &[u64], number: u32) -> u32
     0
 }
 
-// A write is refused for a value too large, too.
+// A write is also refused for a value too large.
 fn write_refusal(r: Registers, buffer: &[u64], number: u32, value: u32) -> u32
     ensures { λ n. ⌜ n ≡ writeRefusal r (Buffer.Wide (now (buffer .entry))) number value ⌝ }
 {
