@@ -10,17 +10,17 @@ use Rattle.control.specs.Halves.{hiOf, loOf, entryFrom}
 
 -- a vpn and a page_id in TLB_HI, taken out again
 module _ (slot vpn15 page-id : ℕ) (p : page-id < 2 ^ 6) where
-  page-id-back : bits 5 0 (vpnAt slot vpn15 * 64 + page-id) ≡ page-id
+  page-id-out : bits 5 0 (vpnAt slot vpn15 * 64 + page-id) ≡ page-id
   unfolding vpnAt
-  page-id-back = omega arith
+  page-id-out = omega arith
 
-  vpn-back : vpn15 < 2 ^ 15 → bits 24 6 (vpnAt slot vpn15 * 64 + page-id) ≡ vpnAt slot vpn15
+  vpn-out : vpn15 < 2 ^ 15 → bits 24 6 (vpnAt slot vpn15 * 64 + page-id) ≡ vpnAt slot vpn15
   unfolding vpnAt
-  vpn-back v = omega arith
+  vpn-out v = omega arith
 
-  vpn15-back : vpn15 < 2 ^ 15 → bits 24 10 (vpnAt slot vpn15 * 64 + page-id) ≡ vpn15
+  vpn15-out : vpn15 < 2 ^ 15 → bits 24 10 (vpnAt slot vpn15 * 64 + page-id) ≡ vpn15
   unfolding vpnAt
-  vpn15-back v = omega arith
+  vpn15-out v = omega arith
 
 -- the parts that the code takes are within their bits, and make up TLB_HI
 module _ (e vpn15 page-id : ℕ) (v : vpn15 ≡ (unpack e) .vpn15) (p : page-id ≡ (unpack e) .«page_id») where
@@ -48,7 +48,7 @@ pub hi-location : (slot e : ℕ) → location (bits 24 6 (hiOf slot e)) ≡ slot
 unfolding hiOf location
 hi-location slot e =
     let f = unpack-fits e in
-    ap (λ (n : ℕ). n % 16) (vpn-back slot ((unpack e) .vpn15) ((unpack e) .«page_id») (f .page-id-fits) (f .vpn15-fits))
+    ap (λ (n : ℕ). n % 16) (vpn-out slot ((unpack e) .vpn15) ((unpack e) .«page_id») (f .page-id-fits) (f .vpn15-fits))
     ∙ at-mod slot ((unpack e) .vpn15)
 
 -- put together again they are the entry
@@ -61,8 +61,8 @@ unfolding hiOf loOf entryFrom
 entry-back slot e l =
     let f = unpack-fits e in
     rw (
-      vpn15-back slot ((unpack e) .vpn15) ((unpack e) .«page_id») (f .page-id-fits) (f .vpn15-fits),
-      page-id-back slot ((unpack e) .vpn15) ((unpack e) .«page_id») (f .page-id-fits),
+      vpn15-out slot ((unpack e) .vpn15) ((unpack e) .«page_id») (f .page-id-fits) (f .vpn15-fits),
+      page-id-out slot ((unpack e) .vpn15) ((unpack e) .«page_id») (f .page-id-fits),
     ) (joined e l)
 
 -- of an entry that is put together, TLB_HI has its vpn15, the slot's location and its page_id, and TLB_LO the rest

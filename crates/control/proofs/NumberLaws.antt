@@ -4,7 +4,7 @@ use mathlib.Core.Path.{_≡_, sym, _∙_}
 use mathlib.Core.Bool.{Bool, true, false}
 use native.Mathlib.Omega.{arith}
 use lib.Dec.{lit<}
-use borrow.Author.Tests.{ltb-true}
+use borrow.Author.Tests.{ltb-true, lt-ltb}
 use Rattle.registers.specs.Fields.{field, toWords, widths, registersFit}
 use Rattle.registers.specs.Refusals.{refuseUnless}
 use Rattle.registers.proofs.Fields.{fits-place}
@@ -17,6 +17,11 @@ pub record NumberAccepted (r : Registers) (b : Buffer) (number : ℕ) : Type 0 w
   pub registers-fit : registersFit r ≡ true
   pub buffer-fits : bufferFits b ≡ true
   pub is-register : isRegister number ≡ true
+
+pub number-accepted : (r : Registers) (b : Buffer) (number : ℕ) → registersFit r ≡ true → bufferFits b ≡ true → number < 10
+    → NumberAccepted r b number
+unfolding isRegister
+number-accepted r b number f g l = record { registers-fit = f; buffer-fits = g; is-register = lt-ltb number 10 l }
 
 pub number-lt : {r : Registers} {b : Buffer} {number : ℕ} → NumberAccepted r b number → number < 10
 unfolding isRegister
@@ -49,9 +54,10 @@ module _ (r : Registers) (b : Buffer) (number later : ℕ) where
   number-refused n e h = stays (registersFit r) (bufferFits b) (isRegister number) later n e h
 
 -- where they pass, the later ones decide
+pub number-goes-on : (r : Registers) (b : Buffer) (number later : ℕ) → NumberAccepted r b number → numberRefusal r b number later ≡ later
+unfolding numberRefusal refuseUnless
+number-goes-on r b number later a = rw (a .registers-fit, a .buffer-fits, a .is-register)
+
 pub number-later : (r : Registers) (b : Buffer) (number later n x : ℕ) → n ≡ numberRefusal r b number 0 → n ≡ 0 → x ≡ later
     → x ≡ numberRefusal r b number later
-unfolding numberRefusal refuseUnless
-number-later r b number later n x e z q =
-    let a = number-passed r b number 0 (sym e ∙ z) .0 in
-    q ∙ sym (rw (a .registers-fit, a .buffer-fits, a .is-register))
+number-later r b number later n x e z q = q ∙ sym (number-goes-on r b number later (number-passed r b number 0 (sym e ∙ z) .0))

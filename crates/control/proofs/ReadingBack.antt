@@ -5,6 +5,7 @@ use mathlib.Core.Bool.{true}
 use mathlib.Core.List.{List, [], _∷_}
 use native.Mathlib.Omega.{arith}
 use native.Mathlib.Nat.{mod-eq-of-lt}
+use lib.Dec.{lit<}
 use lib.ListN.{length}
 use borrow.Author.Tests.{lt-ltb}
 use Rattle.runs.specs.Bits.{bits}
@@ -18,53 +19,36 @@ use Rattle.registers.specs.declared.Reply.{Reply}
 use Rattle.slots.specs.Buffer.{Buffer, bufferFits, slotAt, withSlot}
 use Rattle.slots.proofs.Slots.{slot-lt, at-same, fits-put}
 use Rattle.control.specs.Halves.{hiOf, loOf, entryFrom}
-use Rattle.control.specs.Numbers.{isRegister, numberRefusal}
 use Rattle.control.specs.Writing.{writeRefusal, writtenEntry, writtenBuffer, writeReply, bufferAfterWrite, WriteGives}
 use Rattle.control.specs.Reading.{readRefusal, readValue, readReply, ReadGives}
 use Rattle.control.specs.ReadingBack.{Look, LookedAt, Shows, hiWritten, WrittenIsRead, WrittenIsReadAtOnce}
 use Rattle.control.specs.ReadingBack.{ShowsSlot, Dump, ShowsSlots, DumpIsTheBuffer, lookAt, dumpFrom}
-use Rattle.control.proofs.NumberLaws.{NumberAccepted, select-lt}
+use Rattle.control.proofs.NumberLaws.{NumberAccepted, number-accepted, number-goes-on, select-lt}
 use Rattle.control.proofs.CallLaws.{low-lt, write-accepted, write-gives}
 use Rattle.control.proofs.HalvesLaws.{hi-lt, lo-lt, hi-location, entry-back, hi-from, lo-from}
 use Rattle.control.proofs.ReadLaws.{read-gives}
 
--- over registers and a buffer that fit, SELECT and TLB_LO are written and a register is read
-module _ (r : Registers) (b : Buffer) (f : registersFit r ≡ true) (g : bufferFits b ≡ true) where
-  select-accepted : (slot : ℕ) → slot < 64 → writeRefusal r b SELECT slot ≡ 0
-  unfolding writeRefusal numberRefusal refuseUnless isRegister fitsAt widths
-  select-accepted slot l = rw (f, g, lt-ltb slot 64 l)
+-- a write and a read that are accepted
+module _ (r : Registers) (b : Buffer) (number : ℕ) (a : NumberAccepted r b number) where
+  write-passes : (value : ℕ) → fitsAt number value ≡ true → writeRefusal r b number value ≡ 0
+  unfolding writeRefusal refuseUnless
+  write-passes value h = number-goes-on r b number _ a ∙ rw h
 
-  select-reply : (slot : ℕ) → slot < 64 → writeReply r b SELECT slot ≡ done (put r SELECT slot) 0
+  write-done : (value : ℕ) → fitsAt number value ≡ true → writeReply r b number value ≡ done (put r number value) 0
   unfolding writeReply byRefusal
-  select-reply slot l = rw (select-accepted slot l)
+  write-done value h = rw (write-passes value h)
 
-  lo-accepted : (value : ℕ) → fitsAt TLB_LO value ≡ true → writeRefusal r b TLB_LO value ≡ 0
-  unfolding writeRefusal numberRefusal refuseUnless isRegister
-  lo-accepted value h = rw (f, g, h)
+  buffer-written : (value : ℕ) → fitsAt number value ≡ true → bufferAfterWrite r b number value ≡ writtenBuffer r b number value
+  unfolding bufferAfterWrite byRefusal
+  buffer-written value h = rw (write-passes value h)
 
-  lo-written : (value : ℕ) → fitsAt TLB_LO value ≡ true → writeReply r b TLB_LO value ≡ done (put r TLB_LO value) 0
-  unfolding writeReply byRefusal
-  lo-written value h = rw (lo-accepted value h)
-
-  select-buffer : (slot : ℕ) → slot < 64 → bufferAfterWrite r b SELECT slot ≡ b
-  unfolding bufferAfterWrite byRefusal writtenBuffer
-  select-buffer slot l = rw (select-accepted slot l)
-
-  read-reply : (number : ℕ) → isRegister number ≡ true → readReply r b number ≡ done r (readValue r b number)
-  unfolding readReply readRefusal numberRefusal refuseUnless byRefusal
-  read-reply number k = rw (f, g, k)
+  read-done : readReply r b number ≡ done r (readValue r b number)
+  unfolding readReply readRefusal byRefusal
+  read-done = rw (number-goes-on r b number 0 a)
 
 select-fits : (slot : ℕ) → slot < 64 → fitsAt SELECT slot ≡ true
 unfolding fitsAt widths
 select-fits slot l = lt-ltb slot 64 l
-
-is-tlb-hi : isRegister TLB_HI ≡ true
-unfolding isRegister
-is-tlb-hi = refl
-
-is-tlb-lo : isRegister TLB_LO ≡ true
-unfolding isRegister
-is-tlb-lo = refl
 
 hi-value : (r : Registers) (b : Buffer) (slot : ℕ) → readValue (put r SELECT slot) b TLB_HI ≡ hiOf slot (slotAt b slot)
 unfolding readValue put fromWords toWords
@@ -77,29 +61,32 @@ lo-value r b slot = refl
 -- a look shows the slot's entry
 look-shows : (r : Registers) (b : Buffer) (slot : ℕ) (l : Look) → registersFit r ≡ true → bufferFits b ≡ true → slot < 64
     → LookedAt r b slot l → Shows r b slot (hiOf slot (slotAt b slot)) (loOf (slotAt b slot)) l
+unfolding writtenBuffer
 look-shows r b slot l f g lt k = record { hi-is = hi-is; lo-is = lo-is; buffer-stays = buffer-stays }
   where
     q : Registers
     q = put r SELECT slot
 
+    a : NumberAccepted r b SELECT
+    a = number-accepted r b SELECT f g (lit< tt)
+
     buffer-stays : l .buffer ≡ b
-    buffer-stays = k .select-written .buffer-is ∙ select-buffer r b f g slot lt
+    buffer-stays = k .select-written .buffer-is ∙ buffer-written r b SELECT a slot (select-fits slot lt)
 
     selected : l .select-reply .registers ≡ q
-    selected = ap (λ (s : Reply). s .registers) (k .select-written .reply-is ∙ select-reply r b f g slot lt)
+    selected = ap (λ (s : Reply). s .registers) (k .select-written .reply-is ∙ write-done r b SELECT a slot (select-fits slot lt))
 
-    read : (number : ℕ) → isRegister number ≡ true → (given : Registers) → given ≡ q → (reply : Reply)
-        → ReadGives given (l .buffer) number reply → reply ≡ done q (readValue q b number)
+    read : (number : ℕ) → number < 10 → (given : Registers) → given ≡ q → (reply : Reply) → ReadGives given (l .buffer) number reply
+        → reply ≡ done q (readValue q b number)
     read number known given e reply h =
         h .reply-is ∙ ap (λ (p : Registers). readReply p (l .buffer) number) e ∙ ap (λ (c : Buffer). readReply q c number) buffer-stays
-        ∙ read-reply q b (put-fits r SELECT slot f (select-fits slot lt)) g number known
+        ∙ read-done q b number (number-accepted q b number (put-fits r SELECT slot f (select-fits slot lt)) g known)
 
     hi-is : l .hi-reply ≡ done q (hiOf slot (slotAt b slot))
-    hi-is = read TLB_HI is-tlb-hi _ selected _ (k .hi-read) ∙ ap (done q) (hi-value r b slot)
+    hi-is = read TLB_HI (lit< tt) _ selected _ (k .hi-read) ∙ ap (done q) (hi-value r b slot)
 
     lo-is : l .lo-reply ≡ done q (loOf (slotAt b slot))
-    lo-is =
-        read TLB_LO is-tlb-lo _ (ap (λ (s : Reply). s .registers) hi-is) _ (k .lo-read) ∙ ap (done q) (lo-value r b slot)
+    lo-is = read TLB_LO (lit< tt) _ (ap (λ (s : Reply). s .registers) hi-is) _ (k .lo-read) ∙ ap (done q) (lo-value r b slot)
 
 -- the slot that an accepted write to TLB_LO leaves
 module _ (r : Registers) (b after : Buffer) (value : ℕ) (reply : Reply) (w : WriteGives r b after TLB_LO value reply)
@@ -118,8 +105,8 @@ module _ (r : Registers) (b after : Buffer) (value : ℕ) (reply : Reply) (w : W
   entry-lt = join-lt (bits 24 10 (r .«tlb_hi»)) (bits 5 0 (r .«tlb_hi»)) value (omega arith) (omega arith) value-lt
 
   stored : after ≡ withSlot b (r .select) (writtenEntry r value)
-  unfolding bufferAfterWrite byRefusal writtenBuffer
-  stored = w .buffer-is ∙ rw (sym (w .refusal-is) ∙ a)
+  unfolding writtenBuffer
+  stored = w .buffer-is ∙ buffer-written r b TLB_LO handed value value-fits
 
   slot-left : slotAt after (r .select) ≡ writtenEntry r value
   slot-left =
@@ -131,8 +118,7 @@ module _ (r : Registers) (b after : Buffer) (value : ℕ) (reply : Reply) (w : W
   after-fits = ap bufferFits stored ∙ fits-put b (r .select) (writtenEntry r value) ∙ handed .buffer-fits
 
   reply-left : reply ≡ done (put r TLB_LO value) 0
-  unfolding writeReply byRefusal
-  reply-left = w .reply-is ∙ rw (sym (w .refusal-is) ∙ a)
+  reply-left = w .reply-is ∙ write-done r b TLB_LO handed value value-fits
 
   registers-fit : registersFit (reply .registers) ≡ true
   registers-fit =
@@ -210,7 +196,7 @@ pub every-write-read : (r : Registers) (b : Buffer) (value : ℕ) → registersF
 unfolding WrittenIsReadAtOnce refusalOf
 every-write-read r b value f g h =
     written-is-read-at-once r b (bufferAfterWrite r b TLB_LO value) value (done (put r TLB_LO value) 0)
-    (write-gives r b _ TLB_LO value _ (sym (lo-written r b f g value h)) refl) refl _
+    (write-gives r b _ TLB_LO value _ (sym (write-done r b TLB_LO (number-accepted r b TLB_LO f g (lit< tt)) value h)) refl) refl _
     (looked (put r TLB_LO value) (bufferAfterWrite r b TLB_LO value) (r .select))
 
 dumped : (r : Registers) (b : Buffer) (slot count : ℕ) → Dump r b slot (dumpFrom r b slot count)

@@ -21,7 +21,7 @@ readValue r b number =
     cond (eqb number TLB_HI) (hiOf (r .select) (slotAt b (r .select)))
     (cond (eqb number TLB_LO) (loOf (slotAt b (r .select))) (field r number))
 
--- registers stay: the vpn and the page_id that TLB_HI and the cause share keep their value, and so does the TLB_LO last written
+-- registers stay: the vpn and the page_id that TLB_HI and the cause share keep their value, and so does the value last written to TLB_LO
 unfoldable pub readReply : Registers → Buffer → (number : ℕ) → Reply
 readReply r b number =
     byRefusal (readRefusal r b number) (done r (readValue r b number)) (refused r (readRefusal r b number))

@@ -65,7 +65,7 @@ pub record ShowsSlot (r : Registers) (b : Buffer) (slot : ℕ) (l : Look) : Type
   pub entry-is : join (bits 24 10 hi) (bits 5 0 hi) lo ≡ slotAt b slot
   pub location-is : location (bits 24 6 hi) ≡ slot % 16
 
--- looks at a slot and those behind it, each handed what the last one left
+-- looks at a slot and at those after it, each handed what the last one left
 unfoldable pub Dump : Registers → Buffer → (slot : ℕ) → List Look → Type 0
 Dump r b slot [] = Unit {0}
 Dump r b slot (l ∷ ls) = LookedAt r b slot l × Dump (l .lo-reply .registers) (l .buffer) (suc slot) ls
