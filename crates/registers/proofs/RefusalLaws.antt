@@ -1,12 +1,14 @@
 -- Laws of refusals, over any test, number and answer. Assumes nothing.
 use Prim.Native.Nat.{ℕ}
-use mathlib.Core.Path.{_≡_, refl, sym, _∙_}
+use mathlib.Core.Path.{_≡_, refl, sym, ap, _∙_}
+use mathlib.Core.Logic.{_⊎_, inl, inr, ⊎-elim}
 use mathlib.Core.Bool.{Bool, true, false, cond, not}
 use lib.Dec.{eqb}
 use borrow.Author.Tests.{not-true, not-false, eq-eqb, ne-eqb, eqb-true}
 use Rattle.registers.specs.Refusals.{refuseUnless, byRefusal}
 use Rattle.registers.specs.Replies.{refusalOf, refused, done}
 use Rattle.registers.specs.declared.Registers.{Registers}
+use Rattle.registers.specs.declared.Outcome.{Outcome}
 use Rattle.registers.specs.declared.Reply.{Reply}
 
 -- a check that the code makes by a test t: it fails, or the later checks decide
@@ -35,15 +37,38 @@ module _ {A : Type 0} (number n : ℕ) (nq : n ≡ number) (accepted refused x :
   unfolding byRefusal
   when-refused z q = q ∙ sym (rw (ne-eqb number 0 (λ y. z (nq ∙ y))))
 
--- a call that answers, or is refused, replies with the number of its refusal: 0 exactly where it is accepted
+-- what is accepted or refused, taken apart
+module _ {A : Type 0} (number : ℕ) (accepted refused : A) where
+  pub by-number : (x : A) → x ≡ byRefusal number accepted refused → ((number ≡ 0) × (x ≡ accepted)) ⊎ (x ≡ refused)
+  unfolding byRefusal
+  by-number x q = by-test (eqb number 0) refl
+    where
+      by-test : (b : Bool) → eqb number 0 ≡ b → ((number ≡ 0) × (x ≡ accepted)) ⊎ (x ≡ refused)
+      by-test true e = inl (eqb-true number 0 e, q ∙ ap (λ (b : Bool). cond b accepted refused) e)
+      by-test false e = inr (q ∙ ap (λ (b : Bool). cond b accepted refused) e)
+
+  -- a part of it
+  pub by-part : {B : Type 0} (f : A → B) → f (byRefusal number accepted refused) ≡ byRefusal number (f accepted) (f refused)
+  unfolding byRefusal
+  by-part {B} f = by-test (eqb number 0)
+    where
+      by-test : (b : Bool) → f (cond b accepted refused) ≡ cond b (f accepted) (f refused)
+      by-test true = refl
+      by-test false = refl
+
+  -- an answer tells the number of its refusal: 0 exactly where it is accepted
+  pub told-refusal : (outcome : A → Outcome) → (number ≡ 0 → refusalOf (outcome accepted) ≡ 0) → refusalOf (outcome refused) ≡ number
+      → refusalOf (outcome (byRefusal number accepted refused)) ≡ number
+  told-refusal outcome a r =
+      ⊎-elim (λ done. ap (λ (x : A). refusalOf (outcome x)) (done .1) ∙ a (done .0) ∙ sym (done .0))
+      (λ q. ap (λ (x : A). refusalOf (outcome x)) q ∙ r)
+      (by-number (byRefusal number accepted refused) refl)
+
+-- a call that answers, or is refused, replies with the number of its refusal
 pub answer-refusal : (number : ℕ) (answer : Reply) (r : Registers) → refusalOf (answer .outcome) ≡ 0
     → refusalOf ((byRefusal number answer (refused r number)) .outcome) ≡ number
-unfolding byRefusal refusalOf
-answer-refusal number answer r h = by-test (eqb number 0) refl
-  where
-    by-test : (b : Bool) → eqb number 0 ≡ b → refusalOf ((cond b answer (refused r number)) .outcome) ≡ number
-    by-test true e = h ∙ sym (eqb-true number 0 e)
-    by-test false e = refl
+unfolding refusalOf
+answer-refusal number answer r h = told-refusal number answer (refused r number) (λ (s : Reply). s .outcome) (λ z. h) refl
 
 pub reply-refusal : (number value : ℕ) (after r : Registers)
     → refusalOf ((byRefusal number (done after value) (refused r number)) .outcome) ≡ number

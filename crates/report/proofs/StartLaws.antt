@@ -1,5 +1,5 @@
 -- The start of a replay: zero tables have an index that is all 0. Assumes nothing.
-use Prim.Native.Nat.{ℕ, zero, suc, _+_, _*_, _/_, _≤_}
+use Prim.Native.Nat.{ℕ, _+_, _*_, _/_, _≤_}
 use mathlib.Core.Path.{_≡_, refl, sym, ap, subst, _∙_}
 use mathlib.Core.Bool.{Bool, true, false, cond, _&&_}
 use mathlib.Core.List.{List}
@@ -11,6 +11,7 @@ use borrow.Author.Tests.{eq-eqb}
 use Rattle.runs.specs.Counts.{count}
 use Rattle.runs.proofs.Bools.{and-false}
 use Rattle.runs.proofs.Counts.{count-none}
+use Rattle.runs.proofs.Fills.{filled-at}
 use Rattle.runs.proofs.Pieces.{tab-is}
 use Rattle.registers.specs.declared.Reply.{Reply}
 use Rattle.registers.specs.Fields.{zeroRegisters}
@@ -29,9 +30,7 @@ use Rattle.report.specs.Totals.{AllWithin}
 use Rattle.report.specs.Tallies.{ReplayStarts}
 
 zero-at : (n j : ℕ) → _≡_ {A = ℕ} (getD (replicate n 0) j 0) 0
-zero-at zero j = refl
-zero-at (suc n) zero = refl
-zero-at (suc n) (suc j) = zero-at n j
+zero-at n j = filled-at {A = ℕ} 0 n j
 
 no-links : (n j t : ℕ) → linksTo (replicate n 0) j t ≡ false
 unfolding linksTo leadsTo leadsOn present
@@ -68,9 +67,7 @@ zero-indexed n k e = record {
     long = length-replicate k 0 ∙ e ∙ ap (λ (x : ℕ). x / 1024) (sym (length-replicate n 0))
 
 pub zero-total : (n i : ℕ) → getD (replicate n (pos 0)) i (pos 0) ≡ pos 0
-zero-total zero i = refl
-zero-total (suc n) zero = refl
-zero-total (suc n) (suc i) = zero-total n i
+zero-total n i = filled-at (pos 0) n i
 
 pub zero-within : (n : ℕ) → AllWithin (replicate n (pos 0))
 zero-within n = record { each = λ i. subst (λ (z : ℤ). natAbs z ≤ 4294967295) (sym (zero-total n i)) (omega arith) }

@@ -1,10 +1,12 @@
 -- Laws of `all`, `any`, `count` and `lowest`, over any test. Assumes nothing.
-use Prim.Native.Nat.{ℕ, zero, suc, _+_, _≤_, _<_}
+use Prim.Native.Nat.{ℕ, zero, suc, _+_, _-_, _≤_, _<_}
 use mathlib.Core.Path.{_≡_, refl, sym, ap, _∙_, subst}
 use mathlib.Core.Logic.{_⊎_, inl, inr, ⊎-elim}
-use mathlib.Core.Bool.{Bool, true, false, cond, _||_}
-use native.Mathlib.Nat.{le-of-suc-le-suc, not-suc-le-zero, eq-or-lt-of-le, lt-suc-self, add-suc, add-zero}
+use mathlib.Core.Bool.{Bool, true, false, cond, not, _&&_}
+use native.Mathlib.Nat.{le-of-suc-le-suc, not-suc-le-zero, eq-or-lt-of-le, lt-suc-self, add-suc, add-zero, add-sub-of-le}
 use native.Mathlib.Omega.{arith}
+use lib.Dec.{ltb}
+use borrow.Author.Tests.{lt-ltb, le-ltb}
 use Rattle.runs.specs.Bits.{bit}
 use Rattle.runs.proofs.Bits.{bit-le}
 use Rattle.runs.proofs.Bools.{is-false, clash, both, and-both, or-either, or-left, or-right}
@@ -104,6 +106,18 @@ module _ (p : ℕ → Bool) where
       here : k ≡ n → lowest p n (cond (p n) n d) ≡ k
       here e = rw (subst (λ (j : ℕ). p j ≡ true) e t) (lowest-none n n (only-none n k e o) ∙ sym e)
 
+  -- the lowest is a number that passes and below which none does
+  pub lowest-is : (n d k : ℕ) → k < n → p k ≡ true → ((j : ℕ) → j < k → p j ≡ false) → lowest p n d ≡ k
+  unfolding lowest
+  lowest-is zero d k l t none = absurd (not-suc-le-zero l)
+  lowest-is (suc n) d k l t none =
+      ⊎-elim (λ (e : k ≡ n). here e) (λ (l′ : k < n). lowest-is n (cond (p n) n d) k l′ t none) (split l)
+    where
+      here : k ≡ n → lowest p n (cond (p n) n d) ≡ k
+      here e =
+          lowest-none n (cond (p n) n d) (λ j jl. none j (omega arith))
+          ∙ ap (λ (b : Bool). cond b n d) (subst (λ (j : ℕ). p j ≡ true) e t) ∙ sym e
+
   pub lowest-true : (n d : ℕ) → Some n → (p (lowest p n d) ≡ true) × (lowest p n d < n)
   unfolding lowest
   lowest-true zero d s = absurd (not-suc-le-zero (s .1))
@@ -164,6 +178,11 @@ module _ (p : ℕ → Bool) where
 
 -- tests that agree below the bound
 module _ (p q : ℕ → Bool) where
+  pub all-same : (n : ℕ) → ((k : ℕ) → k < n → p k ≡ q k) → all p n ≡ all q n
+  unfolding all
+  all-same zero h = refl
+  all-same (suc n) h = rw (all-same n (λ k l. h k (omega arith)), h n (lt-suc-self n))
+
   pub any-same : (n : ℕ) → ((k : ℕ) → k < n → p k ≡ q k) → any p n ≡ any q n
   unfolding any
   any-same zero h = refl
@@ -194,3 +213,26 @@ module _ (p q : ℕ → Bool) where
 
       below : i < n → count p n + bit (q i) ≡ count q n + bit (p i) → count p n + bit (p n) + bit (q i) ≡ count q n + bit (q n) + bit (p i)
       below l′ ih = let s : bit (p n) ≡ bit (q n) = ap bit (h n (lt-suc-self n) (λ (f : n ≡ i). omega arith)) in omega arith
+
+module _ (p : ℕ → Bool) where
+  -- what passes and what does not make all
+  pub count-both : (n : ℕ) → count (λ k. not (p k)) n + count p n ≡ n
+  unfolding count
+  count-both zero = refl
+  count-both (suc n) = let h = count-both n in let b = one-of (p n) in omega arith
+    where
+      one-of : (b : Bool) → bit (not b) + bit b ≡ 1
+      one-of true = refl
+      one-of false = refl
+
+  -- those that pass and are below a bound, counted up to a number past it
+  pub count-below : (bound n : ℕ) → bound ≤ n → count (λ k. ltb k bound && p k) n ≡ count p bound
+  count-below bound n l =
+      ap (count (λ k. ltb k bound && p k)) (sym (add-sub-of-le l))
+      ∙ count-add (λ k. ltb k bound && p k) bound (n - bound)
+      ∙ rw (
+        count-same (λ k. ltb k bound && p k) p bound (λ k kl. ap (λ (b : Bool). b && p k) (lt-ltb k bound kl)),
+        count-none (λ k. ltb (bound + k) bound && p (bound + k)) (n - bound)
+            (λ k kl. ap (λ (b : Bool). b && p (bound + k)) (le-ltb (bound + k) bound (omega arith))),
+        add-zero (count p bound),
+      ) refl

@@ -1,10 +1,10 @@
--- The turns of a loop that fills a run with one value, over any element. Assumes nothing.
-use Prim.Native.Nat.{ℕ, _+_, _≤_, _<_}
+-- The turns of a loop that fills a run with one value, and such a run, over any element. Assumes nothing.
+use Prim.Native.Nat.{ℕ, zero, suc, _+_, _≤_, _<_}
 use mathlib.Core.Path.{_≡_, refl, sym, ap, _∙_}
 use mathlib.Core.List.{List, [], _∷_, _++_}
 use native.Mathlib.Numerals.{add-one}
 use native.Mathlib.Omega.{arith}
-use lib.ListN.{length, set, take, replicate, length-set, replicate-append-replicate}
+use lib.ListN.{length, getD, set, take, replicate, length-set, replicate-append-replicate}
 use lib.Seq.{take-suc-set, take-all}
 
 module _ {A : Type 0} where
@@ -32,3 +32,9 @@ module _ {A : Type 0} where
   fill-end old now e i f l =
       let k : i ≡ length old = (let a = f .in-range in omega arith) in
       sym (take-all i now (omega (arith, f .same-length))) ∙ f .front ∙ ap (λ (k : ℕ). replicate k e) k
+
+  -- what stands at an index of a run of one value, past its end too
+  pub filled-at : (e : A) (n i : ℕ) → getD (replicate n e) i e ≡ e
+  filled-at e zero i = refl
+  filled-at e (suc n) zero = refl
+  filled-at e (suc n) (suc i) = filled-at e n i

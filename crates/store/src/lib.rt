@@ -120,7 +120,7 @@ fn sweep(buffer: &mut [u64], words: &[u32]) -> u32
 }
 
 // Writes one word and sweeps; answers how many slots were emptied.
-fn rewrite(buffer: &mut [u64], words: &mut [u32], index: u32, value: u32) -> u32
+pub fn rewrite(buffer: &mut [u64], words: &mut [u32], index: u32, value: u32) -> u32
     requires { ⌜ (bufferFits (Buffer.Wide (now buffer)) ≡ true) × (64 ≤ length (now words)) × (index < length (now words)) ⌝ }
     ensures { λ n. ⌜ RewriteGives ((record { index = index; value = value }) ∷ []) (now (words .entry)) (now (words .exit))
         (Buffer.Wide (now (buffer .entry))) (Buffer.Wide (now (buffer .exit))) n ⌝ }
@@ -129,7 +129,8 @@ fn rewrite(buffer: &mut [u64], words: &mut [u32], index: u32, value: u32) -> u32
     sweep(buffer, words)
 }
 
-fn store_refusal(r: Registers, buffer: &[u64], words: &[u32], index: u32) -> u32
+// The number that a table store is refused with; 0 where it is accepted.
+pub fn store_refusal(r: Registers, buffer: &[u64], words: &[u32], index: u32) -> u32
     ensures { λ n. ⌜ n ≡ storeRefusal
         (record { registers = r; buffer = Buffer.Wide (now (buffer .entry)); words = now (words .entry) }) index ⌝ }
 {

@@ -1,0 +1,113 @@
+-- The balance from a new pool, and that no frame is live twice. Assumes nothing.
+use Prim.Native.Nat.{ℕ, _+_, _-_, _/_, _%_}
+use mathlib.Core.Path.{_≡_, refl, sym, ap, _∙_, subst}
+use mathlib.Core.Bool.{Bool, false, _&&_}
+use mathlib.Core.List.{List, [], _∷_, _++_}
+use native.Mathlib.Nat.{add-zero}
+use native.Mathlib.Omega.{arith}
+use lib.Dec.{leb, ltb}
+use lib.ListN.{length, length-replicate}
+use Rattle.runs.specs.Bits.{flag, bit}
+use Rattle.runs.proofs.Bools.{and-false}
+use Rattle.runs.proofs.Counts.{count-none}
+use Rattle.runs.proofs.Fills.{filled-at}
+use Rattle.registers.specs.Refusals.{refuseUnless, byRefusal}
+use Rattle.registers.specs.declared.Outcome.the-variants.{Done}
+use Rattle.registers.proofs.RefusalLaws.{passed, when-accepted}
+use Rattle.heap.specs.Bits.{heldAt, freeAt}
+use Rattle.heap.specs.Pools.{framesFit, poolFits, freeFrames, heldFrames, holds}
+use Rattle.heap.specs.NewPool.{newRefusal, clearPool, newReply, NewPoolGives}
+use Rattle.heap.specs.Held.{heldRefusal, heldOutcome}
+use Rattle.heap.specs.Histories.{Event, poolLeft, KeptThroughout, lastPool, takenIn, givenIn, times}
+use Rattle.heap.specs.Balance.{heldBy, Balanced, Balance, NeverTwiceLive}
+use Rattle.heap.specs.declared.Pool.{Pool}
+use Rattle.heap.specs.declared.PoolReply.{PoolReply}
+use Rattle.runs.proofs.Flags.{flag-none}
+use Rattle.runs.proofs.Counts.{count-both}
+use Rattle.heap.proofs.Marks.{Sound}
+use Rattle.heap.proofs.Accounts.{Account, account, account-of, taken-now}
+
+-- a pool with no bit set
+module _ (first size : ℕ) where
+  none-held : (place : ℕ) → heldAt ((clearPool first size) .bits) place ≡ false
+  unfolding heldAt clearPool
+  none-held place = ap (flag (place % 64)) (filled-at {A = ℕ} 0 64 (place / 64)) ∙ flag-none (place % 64)
+
+  holds-none : (pfn : ℕ) → holds (clearPool first size) pfn ≡ false
+  unfolding holds
+  holds-none pfn =
+      let p = clearPool first size in
+      let within = leb (p .first) pfn && ltb pfn (p .first + p .size) in
+      ap (λ (b : Bool). within && b) (none-held (pfn - p .first)) ∙ and-false within
+
+  no-frames : heldFrames (clearPool first size) ≡ 0
+  unfolding heldFrames
+  no-frames = count-none (heldAt ((clearPool first size) .bits)) ((clearPool first size) .size) (λ k l. none-held k)
+
+  module _ (reply : PoolReply) (made : NewPoolGives first size reply) (z : newRefusal first size ≡ 0) where
+    new-is : reply .pool ≡ clearPool first size
+    unfolding newReply
+    new-is = ap (λ (s : PoolReply). s .pool) (made .reply-is ∙ sym (when-accepted _ 0 (sym z) _ _ _ refl refl))
+
+    pub new-sound : Sound (reply .pool)
+    unfolding newRefusal clearPool poolFits
+    new-sound = subst Sound (sym new-is) (record {
+      all-words = length-replicate {A = ℕ} 64 0;
+      fits = passed (framesFit first size) 1 0 (λ e. omega arith) z .0;
+    })
+
+    new-account : (history : List Event) → KeptThroughout (reply .pool) history
+        → Account (clearPool first size) (lastPool (reply .pool) history) (takenIn history) (givenIn history)
+    new-account history kept =
+        subst (λ (p : Pool). Account p (lastPool (reply .pool) history) (takenIn history) (givenIn history)) new-is
+        (account (reply .pool) new-sound history kept)
+
+    balanced : (history : List Event) → KeptThroughout (reply .pool) history → Balanced first size history (lastPool (reply .pool) history)
+    unfolding clearPool heldBy freeFrames heldFrames freeAt heldOutcome heldRefusal byRefusal refuseUnless
+    balanced history kept = record {
+      first-stays = told .first-same;
+      size-stays = told .size-same;
+      still-fits = told .sound-still .fits;
+      balance = let all = count-both (heldAt (now .bits)) (now .size) in let s = told .size-same in omega (arith, held);
+      ones-are-held = held;
+      held-answers =
+          rw (told .sound-still .fits) (ap Done held);
+      gives-within = omega (arith, counts);
+      each-frame = λ pfn. sym (add-zero (times pfn (takenIn history))) ∙ ap (λ (b : Bool). times pfn (takenIn history) + bit b) (sym (holds-none pfn)) ∙ told .frame pfn;
+    }
+      where
+        now : Pool
+        now = lastPool (reply .pool) history
+
+        told : Account (clearPool first size) now (takenIn history) (givenIn history)
+        told = new-account history kept
+
+        counts : length (takenIn history) ≡ length (givenIn history) + heldFrames now
+        counts = let f = told .frames in omega (arith, no-frames)
+
+        held : heldFrames now ≡ length (takenIn history) - length (givenIn history)
+        held = let c = counts in omega arith
+
+pub balance : Balance
+unfolding Balance
+balance first size reply made z history kept = balanced first size reply made z history kept
+
+-- a sequence in two parts
+kept-parts : (p : Pool) (xs ys : List Event) → KeptThroughout p (xs ++ ys) → KeptThroughout p xs × KeptThroughout (lastPool p xs) ys
+unfolding KeptThroughout lastPool
+kept-parts p [] ys kept = (tt, kept)
+kept-parts p (x ∷ xs) ys kept = let rest = kept-parts (poolLeft x) xs ys (kept .1) in ((kept .0, rest .0), rest .1)
+
+pub never-twice-live : NeverTwiceLive
+unfolding NeverTwiceLive KeptThroughout
+never-twice-live first size reply made z before between one other kept pfn took took-again =
+    let early = kept-parts (reply .pool) before (one ∷ (between ++ (other ∷ []))) kept in
+    let start = account (reply .pool) (new-sound first size reply made z) before (early .0) in
+    let here = lastPool (reply .pool) before in
+    let held = taken-now here (start .sound-still) one (early .1 .0) pfn took .1 in
+    let late = kept-parts (poolLeft one) between (other ∷ []) (early .1 .1) in
+    let next = account-of here (start .sound-still) one (early .1 .0) in
+    let between-told = account (poolLeft one) (next .sound-still) between (late .0) in
+    let free = taken-now (lastPool (poolLeft one) between) (between-told .sound-still) other (late .1 .0) pfn took-again .0 in
+    let frame = between-told .frame pfn in
+    omega arith

@@ -1,0 +1,10 @@
+pub mod BitLaws
+pub mod PoolLaws
+pub mod CallLaws
+pub mod MapLaws
+pub mod Marks
+pub mod Accounts
+pub mod Balance
+pub mod Histories
+pub mod Mapping
+pub mod PastTheSize

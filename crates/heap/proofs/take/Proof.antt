@@ -1,0 +1,75 @@
+use mathlib.Core.Path.{sym, ap₂, _∙_}
+use native.Mathlib.Omega.{arith}
+use Rattle.heap.specs.Pools.{lowestFree, donePool}
+use Rattle.heap.specs.Take.{takeRefusal}
+use Rattle.heap.proofs.PoolLaws.{frames-now}
+use Rattle.heap.proofs.CallLaws.{fits-now, unfit, fit, full-refusal, no-full-refusal, place-lt, pfn-lt, pfn-is, pool-after, take-refused, take-done}
+use borrow.Author.Needs.{needs}
+use Rattle.heap.proofs.take.Statement.{statement}
+use Rattle.heap.proofs.take.Tie as tie
+
+frames-fit-requires : tie.Need-frames-fit-requires
+frames-fit-requires c κs = search needs
+
+refused-requires : tie.Need-refused-requires
+refused-requires c κs = search needs
+
+returns : tie.Need-returns
+unfolding takeRefusal
+returns c = take-refused _ _ 1 (unfit _ _ (c .before .before .frames-fit .ensures) _ (c .before .if1 .taken)) (λ z. omega arith) (c .refused .ensures)
+
+lowest-free-requires : tie.Need-lowest-free-requires
+lowest-free-requires c κs =
+    frames-now _ _ _ (c .before .before .before .frames-fit .ensures) (c .before .before .if1 .left) .at-most
+
+refused-requires-2 : tie.Need-refused-requires-2
+refused-requires-2 c κs = search needs
+
+returns-2 : tie.Need-returns-2
+unfolding takeRefusal lowestFree
+returns-2 c =
+    let full = full-refusal _ (sym (c .before .before .lowest-free .ensures) ∙ c .before .if2 .taken) in
+    let test = c .before .before .before .before .before .before .frames-fit .ensures in
+    take-refused _ _ 10 (fit _ _ test 10 _ (c .before .before .before .before .before .if1 .left) full) (λ z. omega arith) (c .refused2 .ensures)
+
+add-done : tie.Need-add-done
+unfolding lowestFree
+add-done c =
+    let test = c .before .before .before .before .before .frames-fit .ensures in
+    let tested = c .before .before .before .before .if1 .left in
+    omega (arith, pfn-lt _ (fits-now _ _ test tested) _ (c .before .lowest-free .ensures) (c .if2 .left))
+
+flip-requires : tie.Need-flip-requires
+unfolding lowestFree
+flip-requires c κs =
+    let fits = fits-now _ _ (c .before .before .before .before .before .frames-fit .ensures) (c .before .before .before .before .if1 .left) in
+    place-lt _ fits _ (c .before .lowest-free .ensures) (c .if2 .left)
+
+done-requires : tie.Need-done-requires
+done-requires c κs = search needs
+
+returns-3 : tie.Need-returns-3
+unfolding takeRefusal lowestFree
+returns-3 c =
+    let test = c .before .before .before .before .before .before .before .frames-fit .ensures in
+    let tested = c .before .before .before .before .before .before .if1 .left in
+    let fits = fits-now _ _ test tested in
+    let place = c .before .before .before .lowest-free .ensures in
+    let free = c .before .before .if2 .left in
+    take-done _ _ (fit _ _ test 0 _ tested (no-full-refusal _ (λ e. free (place ∙ e))))
+    (c .done .ensures ∙ ap₂ donePool (pfn-is _ fits _ place free) (pool-after _ fits _ place free _ (c .before .flip .ensures)))
+
+pub take-spec : {M : Type 1} → statement M
+take-spec =
+    tie.close
+    (tie.spec
+    frames-fit-requires
+    refused-requires
+    returns
+    lowest-free-requires
+    refused-requires-2
+    returns-2
+    add-done
+    flip-requires
+    done-requires
+    returns-3)

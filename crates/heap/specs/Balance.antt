@@ -1,0 +1,47 @@
+-- The balance: from a new pool, frames free plus frames held equals the size, the held number being counted from the history.
+use Prim.Native.Nat.{ℕ, _+_, _-_, _≤_}
+use mathlib.Core.Path.{_≡_}
+use mathlib.Core.Bool.{true}
+use mathlib.Core.List.{List, [], _∷_, _++_}
+use lib.ListN.{length}
+use Rattle.runs.specs.Bits.{bit}
+use Rattle.registers.specs.declared.Outcome.the-variants.{Done}
+use Rattle.heap.specs.Pools.{poolFits, freeFrames, heldFrames, holds}
+use Rattle.heap.specs.NewPool.{newRefusal, NewPoolGives}
+use Rattle.heap.specs.Held.{heldOutcome}
+use Rattle.heap.specs.Histories.{Event, KeptThroughout, lastPool, takenBy, takenIn, givenIn, times}
+use Rattle.heap.specs.declared.Pool.{Pool}
+use Rattle.heap.specs.declared.PoolReply.{PoolReply}
+
+-- "the held number being counted from the history of takes, mappings among them, and gives": takes and mappings accepted, minus gives
+-- accepted
+unfoldable pub heldBy : List Event → ℕ
+heldBy history = length (takenIn history) - length (givenIn history)
+
+pub record Balanced (first size : ℕ) (history : List Event) (p : Pool) : Type 0 where
+  -- the pool has the frames that it was made with, so no call that is handed it is refused with 1 for it
+  pub first-stays : p .first ≡ first
+  pub size-stays : p .size ≡ size
+  pub still-fits : poolFits p ≡ true
+  -- "frames free plus frames held equals the pool size"
+  pub balance : freeFrames p + heldBy history ≡ size
+  -- the history's number is that of the bits set within the size, and the call held answers it
+  pub ones-are-held : heldFrames p ≡ heldBy history
+  pub held-answers : heldOutcome p ≡ Done (heldBy history)
+  -- it is a difference: no more gives were accepted than takes and mappings
+  pub gives-within : length (givenIn history) ≤ length (takenIn history)
+  -- of every frame: it was taken once more than given where it is held, else as often. So no frame has two live takes
+  pub each-frame : (pfn : ℕ) → times pfn (takenIn history) ≡ times pfn (givenIn history) + bit (holds p pfn)
+
+-- "From a new pool, all free, each call handed the last one's pool"; any sequence of calls, so at the new pool and after each call
+unfoldable pub Balance : Type 0
+Balance =
+    (first size : ℕ) (reply : PoolReply) → NewPoolGives first size reply → newRefusal first size ≡ 0
+    → (history : List Event) → KeptThroughout (reply .pool) history → Balanced first size history (lastPool (reply .pool) history)
+
+-- two live takes never answer the same frame: between two takes or mappings that answer it, it is given
+unfoldable pub NeverTwiceLive : Type 0
+NeverTwiceLive =
+    (first size : ℕ) (reply : PoolReply) → NewPoolGives first size reply → newRefusal first size ≡ 0
+    → (before between : List Event) (one other : Event) → KeptThroughout (reply .pool) (before ++ (one ∷ between ++ (other ∷ [])))
+    → (pfn : ℕ) → takenBy one ≡ pfn ∷ [] → takenBy other ≡ pfn ∷ [] → 1 ≤ times pfn (givenIn between)

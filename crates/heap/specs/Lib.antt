@@ -1,0 +1,11 @@
+pub mod Bits
+pub mod Pools
+pub mod NewPool
+pub mod Take
+pub mod Give
+pub mod Held
+pub mod Map
+pub mod Histories
+pub mod Balance
+pub mod Mapping
+pub mod PastTheSize

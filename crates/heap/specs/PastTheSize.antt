@@ -1,0 +1,40 @@
+-- "bits past its size are ignored and stay"
+use Prim.Native.Nat.{ℕ, _≤_, _<_}
+use mathlib.Core.Path.{_≡_}
+use mathlib.Core.Bool.{true}
+use mathlib.Core.List.{List}
+use lib.ListN.{length}
+use Rattle.store.specs.Machine.{Machine}
+use Rattle.heap.specs.Bits.{heldAt}
+use Rattle.heap.specs.Pools.{poolFits}
+use Rattle.heap.specs.Take.{takeReply}
+use Rattle.heap.specs.Give.{giveReply}
+use Rattle.heap.specs.Held.{heldOutcome}
+use Rattle.heap.specs.Map.{mapAnswer, bufferAfterMap, wordsAfterMap}
+use Rattle.heap.specs.Histories.{Event, KeptThroughout, lastPool}
+use Rattle.heap.specs.declared.Pool.{Pool}
+
+-- two pools with the same frames, of which the same are held; bits past the size may differ
+pub record SameFrames (p q : Pool) : Type 0 where
+  pub first-same : p .first ≡ q .first
+  pub size-same : p .size ≡ q .size
+  pub held-same : (place : ℕ) → place < p .size → heldAt (p .bits) place ≡ heldAt (q .bits) place
+
+-- every call answers both alike
+pub record AnsweredAlike (p q : Pool) : Type 0 where
+  pub take-alike : (takeReply p) .outcome ≡ (takeReply q) .outcome
+  pub give-alike : (pfn : ℕ) → (giveReply p pfn) .outcome ≡ (giveReply q pfn) .outcome
+  pub held-alike : heldOutcome p ≡ heldOutcome q
+  pub map-reply-alike : (m : Machine) (index leaf : ℕ) → (mapAnswer m p index leaf) .reply ≡ (mapAnswer m q index leaf) .reply
+  pub map-pfn-alike : (m : Machine) (index leaf : ℕ) → (mapAnswer m p index leaf) .pfn ≡ (mapAnswer m q index leaf) .pfn
+  pub map-buffer-alike : (m : Machine) (index leaf : ℕ) → bufferAfterMap m p index leaf ≡ bufferAfterMap m q index leaf
+  pub map-words-alike : (m : Machine) (index leaf : ℕ) → wordsAfterMap m p index leaf ≡ wordsAfterMap m q index leaf
+
+unfoldable pub PastIgnored : Type 0
+PastIgnored = (p q : Pool) → SameFrames p q → AnsweredAlike p q
+
+-- whatever the calls, each handed the last one's pool, no bit past the size changes
+unfoldable pub PastStays : Type 0
+PastStays =
+    (p : Pool) → length (p .bits) ≡ 64 → poolFits p ≡ true → (history : List Event) → KeptThroughout p history
+    → (place : ℕ) → p .size ≤ place → heldAt ((lastPool p history) .bits) place ≡ heldAt (p .bits) place
