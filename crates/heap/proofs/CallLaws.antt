@@ -22,7 +22,7 @@ use Rattle.heap.specs.Give.{giveRefusal, givenPool, giveReply, GiveGives
 use Rattle.heap.specs.Held.{heldRefusal, heldOutcome, HeldGives}
 use Rattle.heap.specs.declared.Pool.{Pool}
 use Rattle.heap.specs.declared.PoolReply.{PoolReply}
-use Rattle.heap.proofs.PoolLaws.{pool-in}
+use Rattle.heap.proofs.PoolLaws.{Room, pool-in}
 
 -- a reply of a call on a pool, by the number that the call is refused with
 module _ (p after : Pool) (value number n : ℕ) (nq : n ≡ number) (reply : PoolReply) where
@@ -93,14 +93,12 @@ module _ (p : Pool) where
     found : Found
     found = search-found (λ e. ne (pq ∙ e))
 
-    pub place-inside : place < p .size
-    place-inside = subst (λ (k : ℕ). k < p .size) (sym pq) (found .inside)
-
-    pub place-lt : place < 4096
-    place-lt = let h = place-inside in omega (arith, pool-in p fits .at-most)
-
-    pub pfn-lt : p .first + place < 524288
-    pfn-lt = let h = place-inside in omega (arith, pool-in p fits .in-memory)
+    pub place-room : Room (p .first) (p .size) place
+    place-room = record {
+      inside = subst (λ (k : ℕ). k < p .size) (sym pq) (found .inside);
+      at-most = pool-in p fits .at-most;
+      in-memory = pool-in p fits .in-memory;
+    }
 
     pub pfn-is : p .first + place ≡ takenPfn p
     unfolding takenPfn

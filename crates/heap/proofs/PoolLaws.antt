@@ -34,6 +34,12 @@ pub pool-in : (p : Pool) → poolFits p ≡ true → Fits (p .first) (p .size)
 unfolding poolFits
 pool-in p h = frames-in (p .first) (p .size) h
 
+-- a place of the pool
+pub record Room (first size place : ℕ) : Type 0 where
+  pub inside : place < size
+  pub at-most : size ≤ 4096
+  pub in-memory : first + size ≤ 524288
+
 -- a pfn below the pool's frames, past them, and that of one of them
 module _ (p : Pool) (pfn : ℕ) where
   pub holds-below : pfn < p .first → false ≡ holds p pfn

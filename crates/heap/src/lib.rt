@@ -2,12 +2,13 @@
 ghost use mathlib.Core.Bool.{true, not};
 ghost use mathlib.Core.Path.{_≡_};
 ghost use Prim.Native.Nat.{_≤_, _<_, _%_, _^_};
+ghost use lib.Count.{trailingZeros};
 ghost use lib.ListN.{getD};
 ghost use Rattle.runs.specs.Counts.{count, lowest};
 ghost use Rattle.slots.specs.Buffer.{Buffer};
 ghost use Rattle.heap.specs.Bits.{freeAt, heldAt};
 ghost use Rattle.heap.specs.Pools as pools;
-ghost use Rattle.heap.specs.Pools.{donePool, framesFit, poolWith, refusedPool};
+ghost use Rattle.heap.specs.Pools.{donePool, framesFit, poolWith, refusedPool, withWord};
 ghost use Rattle.heap.specs.NewPool.{NewPoolGives, clearPool};
 ghost use Rattle.heap.specs.Take.{TakeGives};
 ghost use Rattle.heap.specs.Give.{GiveGives};
@@ -63,6 +64,13 @@ fn word_at(bits: &[u64; 64], k: u32) -> u64
     bits[k as usize]
 }
 
+// The place of the lowest set bit of a number that is not 0.
+fn lowest_set(n: u64) -> u32
+    ensures { λ k. ⌜ k ≡ trailingZeros 64 n ⌝ }
+{
+    u64::trailing_zeros(n)
+}
+
 // The place of the lowest free frame; the size where every frame is held.
 fn lowest_free(bits: &[u64; 64], size: u32) -> u32
     requires { ⌜ size ≤ 4096 ⌝ }
@@ -72,7 +80,7 @@ fn lowest_free(bits: &[u64; 64], size: u32) -> u32
     while 64 * k < size {
         let free = low_bits(!word_at(bits, k), size - 64 * k);
         if free != 0 {
-            return 64 * k + u64::trailing_zeros(free);
+            return 64 * k + lowest_set(free);
         }
         k += 1;
     }
@@ -117,15 +125,24 @@ fn holds(pool: Pool, pfn: u32) -> bool
     held_at(&pool.bits, place)
 }
 
+// The pool with another word of bits.
+fn with_word(pool: Pool, k: u32, word: u64) -> Pool
+    requires { ⌜ k < 64 ⌝ }
+    ensures { λ p. ⌜ p ≡ withWord k word pool ⌝ }
+{
+    let mut after = pool;
+    after.bits[k as usize] = word;
+    after
+}
+
 // The pool with the bit at a place flipped: a free frame becomes held, and a held one free.
 fn flip(pool: Pool, place: u32) -> Pool
     requires { ⌜ place < 4096 ⌝ }
     ensures { λ p. ⌜ p ≡ poolWith (not (heldAt (pool .bits) place)) place pool ⌝ }
 {
-    let mut after = pool;
-    let k = (place / 64) as usize;
-    after.bits[k] = after.bits[k] ^ (1u64 << (place % 64));
-    after
+    let k = place / 64;
+    let word = word_at(&pool.bits, k);
+    with_word(pool, k, word ^ (1u64 << (place % 64)))
 }
 
 fn done(value: u32, pool: Pool) -> PoolReply

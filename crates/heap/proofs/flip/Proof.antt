@@ -1,47 +1,29 @@
-use Prim.Native.Nat.{ℕ}
-use mathlib.Core.Path.{ap}
-use mathlib.Core.List.{List}
 use Rattle.heap.specs.Pools.{poolWith}
-use Rattle.heap.proofs.BitLaws.{flipped-bit}
+use Rattle.heap.proofs.BitLaws.{flipped-pool}
 use borrow.Author.Needs.{needs}
 use Rattle.heap.proofs.flip.Statement.{statement}
 use Rattle.heap.proofs.flip.Tie as tie
+use Rattle.heap.proofs.flip.Reads as reads
+use Rattle.heap.proofs.flip.Lts as lts
+use Rattle.heap.proofs.with_word.Reads as with-word-reads
+use Rattle.heap.proofs.word_at.Reads as word-at-reads
 
-cast-k : tie.Need-cast-k
-cast-k c = search needs
+word-at-requires : tie.Need-word-at-requires
+word-at-requires c κs = search needs
 
-mul-after : tie.Need-mul-after
-mul-after c = search needs
+cast-with-word : tie.Need-cast-with-word
+cast-with-word c = search needs
 
-element-copy-out-after : tie.Need-element-copy-out-after
-element-copy-out-after c = search needs
+shl-with-word : tie.Need-shl-with-word
+shl-with-word c = search needs
 
-cast-after : tie.Need-cast-after
-cast-after c = search needs
-
-shl-after : tie.Need-shl-after
-shl-after c = search needs
-
-mul-after-2 : tie.Need-mul-after-2
-mul-after-2 c = search needs
-
-element-write-after : tie.Need-element-write-after
-element-write-after c = search needs
+with-word-requires : tie.Need-with-word-requires
+with-word-requires c κs = search needs
 
 returns : tie.Need-returns
 unfolding poolWith
-returns c =
-    ap (λ (b : List ℕ). record { first = c .before .args .pool .first; size = c .before .args .pool .size; bits = b }) (flipped-bit _ _)
+returns c = flipped-pool _ _ _ _ (c .before .word-at .ensures) (c .with-word .ensures)
 
 pub flip-spec : {M : Type 1} → statement M
 flip-spec =
-    tie.close
-    (tie.spec
-    cast-k
-    mul-after
-    element-copy-out-after
-    cast-after
-    shl-after
-    mul-after-2
-    element-write-after
-    returns)
+    tie.close (tie.spec word-at-requires cast-with-word shl-with-word with-word-requires returns)

@@ -1,8 +1,14 @@
-use Prim.Native.Nat.{_-_, _≤_}
+use Prim.Native.Nat.{ℕ, _+_, _-_, _*_, _≤_}
+use mathlib.Core.Path.{ap, _∙_}
 use native.Mathlib.Omega.{arith}
 use Rattle.heap.proofs.BitLaws.{NoneFree, none-begin, none-turn, none-end, free-found}
 use Rattle.heap.proofs.lowest_free.Statement.{statement}
 use Rattle.heap.proofs.lowest_free.Tie as tie
+use Rattle.heap.proofs.lowest_free.Reads as reads
+use Rattle.heap.proofs.lowest_free.Lts as lts
+use Rattle.heap.proofs.low_bits.Reads as low-bits-reads
+use Rattle.heap.proofs.lowest_set.Reads as lowest-set-reads
+use Rattle.heap.proofs.word_at.Reads as word-at-reads
 
 abbrev Inv-loop : tie.InvT-loop
 Inv-loop bits size k₀ k = (k ≤ 64) × NoneFree bits size k
@@ -31,15 +37,22 @@ low-bits-requires c κs = tt
 mul-result : tie.Need-mul-result Inv-loop μ-loop
 mul-result c = omega arith
 
+lowest-set-requires : tie.Need-lowest-set-requires Inv-loop μ-loop
+lowest-set-requires c κs = tt
+
 add-result : tie.Need-add-result Inv-loop μ-loop
 add-result c =
-    let word = c .before .before .word-at in
-    omega (arith, free-found _ _ _ _ _ (word .ensures) (word .ok) (c .before .low-bits .ensures) (c .before .before .before .before .loop .inv .1) (c .if1 .taken) .1)
+    let word = c .before .before .before .word-at in
+    let none = c .before .before .before .before .before .loop .inv .1 in
+    let found = free-found _ _ _ _ _ (word .ensures) (word .ok) (c .before .before .low-bits .ensures) none (c .before .if1 .taken) in
+    omega (arith, found .1, c .lowest-set .ensures)
 
 returns : tie.Need-returns Inv-loop μ-loop
 returns c =
-    let word = c .before .before .word-at in
-    free-found _ _ _ _ _ (word .ensures) (word .ok) (c .before .low-bits .ensures) (c .before .before .before .before .loop .inv .1) (c .if1 .taken) .0
+    let word = c .before .before .before .word-at in
+    let none = c .before .before .before .before .before .loop .inv .1 in
+    let found = free-found _ _ _ _ _ (word .ensures) (word .ok) (c .before .before .low-bits .ensures) none (c .before .if1 .taken) in
+    ap (λ (t : ℕ). 64 * c .before .before .before .before .before .loop .k + t) (c .lowest-set .ensures) ∙ found .0
 
 add-k : tie.Need-add-k Inv-loop μ-loop
 add-k c = omega arith
@@ -50,7 +63,8 @@ loop-less c = omega arith
 loop-again : tie.Need-loop-again Inv-loop μ-loop
 loop-again c =
     let word = c .before .before .word-at in
-    (omega arith, none-turn _ _ _ _ _ (word .ensures) (word .ok) (c .before .low-bits .ensures) (c .before .before .before .before .loop .inv .1) (c .if1 .left))
+    let none = c .before .before .before .before .loop .inv .1 in
+    (omega arith, none-turn _ _ _ _ _ (word .ensures) (word .ok) (c .before .low-bits .ensures) none (c .if1 .left))
 
 returns-2 : tie.Need-returns-2 Inv-loop μ-loop
 returns-2 c = none-end _ _ _ (c .before .loop .inv .1) (c .loop-test .left)
@@ -68,6 +82,7 @@ lowest-free-spec =
     sub-low-bits
     low-bits-requires
     mul-result
+    lowest-set-requires
     add-result
     returns
     add-k

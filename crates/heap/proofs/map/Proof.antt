@@ -14,7 +14,8 @@ refused-map-requires c κs = search needs
 
 returns : tie.Need-returns
 returns c =
-    map-refused _ _ _ _ 1 _ (map-unfit _ _ _ _ (c .before .before .frames-fit .ensures) (c .before .if1 .taken)) (λ z. omega arith) (c .refused-map .ensures)
+    let refusal = map-unfit _ _ _ _ (c .before .before .frames-fit .ensures) (c .before .if1 .taken) in
+    map-refused _ _ _ _ 1 _ refusal (λ z. omega arith) (c .refused-map .ensures)
 
 store-refusal-requires : tie.Need-store-refusal-requires
 store-refusal-requires c κs = search needs
@@ -30,11 +31,15 @@ same-length-2 c = search needs
 
 returns-2 : tie.Need-returns-2
 returns-2 c =
-    let refusal = map-no-store _ _ _ _ (c .before .before .before .before .before .before .frames-fit .ensures) (c .before .before .before .before .before .if1 .left) _ (c .before .before .store-refusal .ensures) (c .before .if2 .taken) in
+    let test = c .before .before .before .before .before .before .frames-fit .ensures in
+    let tested = c .before .before .before .before .before .if1 .left in
+    let refusal = map-no-store _ _ _ _ test tested _ (c .before .before .store-refusal .ensures) (c .before .if2 .taken) in
     map-refused _ _ _ _ _ _ refusal (c .before .if2 .taken) (c .refused-map2 .ensures)
 
 lowest-free-requires : tie.Need-lowest-free-requires
-lowest-free-requires c κs = frames-now _ _ _ (c .before .before .before .before .before .before .before .frames-fit .ensures) (c .before .before .before .before .before .before .if1 .left) .at-most
+lowest-free-requires c κs =
+    let test = c .before .before .before .before .before .before .before .frames-fit .ensures in
+    frames-now _ _ _ test (c .before .before .before .before .before .before .if1 .left) .at-most
 
 refused-map-requires-3 : tie.Need-refused-map-requires-3
 refused-map-requires-3 c κs = search needs
@@ -48,15 +53,21 @@ same-length-4 c = search needs
 returns-3 : tie.Need-returns-3
 unfolding lowestFree
 returns-3 c =
+    let test = c .before .before .before .before .before .before .before .before .before .before .frames-fit .ensures in
+    let tested = c .before .before .before .before .before .before .before .before .before .if1 .left in
     let store = c .before .before .before .before .before .before .store-refusal .ensures in
-    let refusal = map-full _ _ _ _ (c .before .before .before .before .before .before .before .before .before .before .frames-fit .ensures) (c .before .before .before .before .before .before .before .before .before .if1 .left) _ store (c .before .before .before .before .before .if2 .left) _ (c .before .before .lowest-free .ensures) (c .before .if3 .taken) in
+    let accepted = c .before .before .before .before .before .if2 .left in
+    let refusal = map-full _ _ _ _ test tested _ store accepted _ (c .before .before .lowest-free .ensures) (c .before .if3 .taken) in
     map-refused _ _ _ _ 10 _ refusal (λ z. omega arith) (c .refused-map3 .ensures)
 
 map-frame-requires : tie.Need-map-frame-requires
 unfolding lowestFree
 map-frame-requires c κs =
+    let test = c .before .before .before .before .before .before .before .before .before .before .before .frames-fit .ensures in
+    let tested = c .before .before .before .before .before .before .before .before .before .before .if1 .left in
     let store = c .before .before .before .before .before .before .before .store-refusal .ensures in
-    may-map _ _ _ _ (c .before .before .before .before .before .before .before .before .before .before .before .frames-fit .ensures) (c .before .before .before .before .before .before .before .before .before .before .if1 .left) _ store (c .before .before .before .before .before .before .if2 .left) _ (c .before .before .before .lowest-free .ensures) (c .before .before .if3 .left)
+    let accepted = c .before .before .before .before .before .before .if2 .left in
+    may-map _ _ _ _ test tested _ store accepted _ (c .before .before .before .lowest-free .ensures) (c .before .before .if3 .left)
 
 same-length-5 : tie.Need-same-length-5
 same-length-5 c = search needs

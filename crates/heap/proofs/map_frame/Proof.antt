@@ -1,25 +1,33 @@
 use native.Mathlib.Omega.{arith}
 use Rattle.store.proofs.StoreLaws.{store-accepted}
-use Rattle.heap.proofs.CallLaws.{place-lt, pfn-lt}
+use Rattle.heap.proofs.CallLaws.{place-room}
 use Rattle.heap.proofs.MapLaws.{map-done}
 use borrow.Author.Needs.{needs}
 use Rattle.heap.proofs.map_frame.Statement.{statement}
 use Rattle.heap.proofs.map_frame.Tie as tie
 
 add-pfn : tie.Need-add-pfn
-add-pfn c = let may = c .before .before .before .pre in omega (arith, pfn-lt _ (may .pool-fits) _ (may .place-is) (may .not-full))
+add-pfn c =
+    let may = c .before .before .before .pre in
+    omega (arith, place-room _ (may .pool-fits) _ (may .place-is) (may .not-full))
 
 mapped-word-requires : tie.Need-mapped-word-requires
-mapped-word-requires c κs = let may = c .before .before .before .before .before .pre in pfn-lt _ (may .pool-fits) _ (may .place-is) (may .not-full)
+mapped-word-requires c κs =
+    let may = c .before .before .before .before .before .pre in
+    omega (arith, place-room _ (may .pool-fits) _ (may .place-is) (may .not-full))
 
 rewrite-requires : tie.Need-rewrite-requires
-rewrite-requires c κs = store-accepted _ _ (c .before .before .before .before .before .before .pre .store-accepted)
+rewrite-requires c κs =
+    let accepted = store-accepted _ _ (c .before .before .before .before .before .before .pre .store-accepted) in
+    (accepted .0, accepted .1, omega (arith, accepted .1, accepted .2))
 
 done-requires : tie.Need-done-requires
 done-requires c κs = search needs
 
 flip-requires : tie.Need-flip-requires
-flip-requires c κs = let may = c .before .before .before .before .before .before .before .before .before .before .before .before .pre in place-lt _ (may .pool-fits) _ (may .place-is) (may .not-full)
+flip-requires c κs =
+    let may = c .before .before .before .before .before .before .before .before .before .before .before .before .pre in
+    omega (arith, place-room _ (may .pool-fits) _ (may .place-is) (may .not-full))
 
 same-length : tie.Need-same-length
 same-length c = search needs
@@ -29,8 +37,10 @@ same-length-2 c = search needs
 
 returns : tie.Need-returns
 returns c =
-    map-done _ _ _ _ _ (c .before .before .before .before .before .before .before .before .before .before .before .before .before .pre) _ _ _ _ _ _ (c .before .before .before .before .before .before .before .mapped-word .ensures) (c .before .before .before .before .before .before .rewrite .ensures) (c .before .done .ensures)
-    (c .flip .ensures)
+    let may = c .before .before .before .before .before .before .before .before .before .before .before .before .before .pre in
+    let word = c .before .before .before .before .before .before .before .mapped-word .ensures in
+    let stored = c .before .before .before .before .before .before .rewrite .ensures in
+    map-done _ _ _ _ _ may _ _ _ _ _ _ word stored (c .before .done .ensures) (c .flip .ensures)
 
 pub map-frame-spec : {M : Type 1} → statement M
 map-frame-spec =

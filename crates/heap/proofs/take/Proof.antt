@@ -3,7 +3,8 @@ use native.Mathlib.Omega.{arith}
 use Rattle.heap.specs.Pools.{lowestFree, donePool}
 use Rattle.heap.specs.Take.{takeRefusal}
 use Rattle.heap.proofs.PoolLaws.{frames-now}
-use Rattle.heap.proofs.CallLaws.{fits-now, unfit, fit, full-refusal, no-full-refusal, place-lt, pfn-lt, pfn-is, pool-after, take-refused, take-done}
+use Rattle.heap.proofs.CallLaws.{fits-now, unfit, fit, full-refusal, no-full-refusal}
+use Rattle.heap.proofs.CallLaws.{place-room, pfn-is, pool-after, take-refused, take-done}
 use borrow.Author.Needs.{needs}
 use Rattle.heap.proofs.take.Statement.{statement}
 use Rattle.heap.proofs.take.Tie as tie
@@ -16,7 +17,9 @@ refused-requires c κs = search needs
 
 returns : tie.Need-returns
 unfolding takeRefusal
-returns c = take-refused _ _ 1 (unfit _ _ (c .before .before .frames-fit .ensures) _ (c .before .if1 .taken)) (λ z. omega arith) (c .refused .ensures)
+returns c =
+    let refusal = unfit _ _ (c .before .before .frames-fit .ensures) _ (c .before .if1 .taken) in
+    take-refused _ _ 1 refusal (λ z. omega arith) (c .refused .ensures)
 
 lowest-free-requires : tie.Need-lowest-free-requires
 lowest-free-requires c κs =
@@ -30,20 +33,22 @@ unfolding takeRefusal lowestFree
 returns-2 c =
     let full = full-refusal _ (sym (c .before .before .lowest-free .ensures) ∙ c .before .if2 .taken) in
     let test = c .before .before .before .before .before .before .frames-fit .ensures in
-    take-refused _ _ 10 (fit _ _ test 10 _ (c .before .before .before .before .before .if1 .left) full) (λ z. omega arith) (c .refused2 .ensures)
+    let refusal = fit _ _ test 10 _ (c .before .before .before .before .before .if1 .left) full in
+    take-refused _ _ 10 refusal (λ z. omega arith) (c .refused2 .ensures)
 
 add-done : tie.Need-add-done
 unfolding lowestFree
 add-done c =
     let test = c .before .before .before .before .before .frames-fit .ensures in
     let tested = c .before .before .before .before .if1 .left in
-    omega (arith, pfn-lt _ (fits-now _ _ test tested) _ (c .before .lowest-free .ensures) (c .if2 .left))
+    omega (arith, place-room _ (fits-now _ _ test tested) _ (c .before .lowest-free .ensures) (c .if2 .left))
 
 flip-requires : tie.Need-flip-requires
 unfolding lowestFree
 flip-requires c κs =
-    let fits = fits-now _ _ (c .before .before .before .before .before .frames-fit .ensures) (c .before .before .before .before .if1 .left) in
-    place-lt _ fits _ (c .before .lowest-free .ensures) (c .if2 .left)
+    let test = c .before .before .before .before .before .frames-fit .ensures in
+    let tested = c .before .before .before .before .if1 .left in
+    omega (arith, place-room _ (fits-now _ _ test tested) _ (c .before .lowest-free .ensures) (c .if2 .left))
 
 done-requires : tie.Need-done-requires
 done-requires c κs = search needs
