@@ -62,18 +62,15 @@ pub fn map(
 /// A take from a pool that is not refused. The first number that is not full has the lowest free
 /// bit, unless that lies past the size.
 fn take_lowest(pool: &mut Pool) -> Result<u32, Refusal> {
-    let numbers = pool.size.div_ceil(64) as usize;
-    let not_full = pool.bits[..numbers]
-        .iter_mut()
-        .zip((0..).step_by(64))
-        .find(|(bits, _)| **bits != u64::MAX);
-    let Some((bits, first_place)) = not_full else {
+    let numbers = &mut pool.bits[..pool.size.div_ceil(64) as usize];
+    let Some(n) = numbers.iter().position(|&bits| bits != u64::MAX) else {
         return Err(Refusal::PoolFull);
     };
-    let bit = (!*bits).trailing_zeros();
-    if first_place + bit >= pool.size {
+    let bit = (!numbers[n]).trailing_zeros();
+    let place = 64 * n as u32 + bit;
+    if place >= pool.size {
         return Err(Refusal::PoolFull);
     }
-    *bits |= 1 << bit;
-    Ok(pool.first + first_place + bit)
+    numbers[n] |= 1 << bit;
+    Ok(pool.first + place)
 }
