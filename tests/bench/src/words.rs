@@ -10,12 +10,14 @@ use crate::table;
 use std::path::Path;
 use std::time::Duration;
 
-const SCENARIOS: [&str; 5] = [
+const SCENARIOS: [&str; 7] = [
     "raw access, hit",
     "served access, hit",
     "served access, miss with a load",
     "store into a full buffer, empties nothing",
     "look: SELECT set, TLB_HI and TLB_LO read",
+    "give and take of a frame",
+    "map of a frame, and its give",
 ];
 
 const ROUNDS: usize = 11;

@@ -20,12 +20,11 @@ struct Asked {
 
 impl Question for Asked {
     fn answered_in(&self) -> usize {
-        Answer::byte_length(self.request.buffer.len(), self.expected.tables.len())
+        Answer::byte_length(&self.request, self.expected.tables.len())
     }
 
     fn judge(&self, answer: Option<&[u8]>, report: &mut Report) {
-        let slots = self.request.buffer.len();
-        let got = answer.map(|bytes| Answer::from_bytes(bytes, slots));
+        let got = answer.map(|bytes| Answer::from_bytes(bytes, &self.request));
         let agreed = got.as_ref() == Some(&self.expected);
         for outcome in &self.outcomes {
             report.add(outcome, agreed);

@@ -2,6 +2,7 @@
 
 use crate::expected::walk_is_possible;
 use crate::protocol::{Answer, Call, Request};
+use reference::heap::Pool;
 use reference::{location, slots_of, vpn, walk, Access, Walk, FIELDS, FIELD_NAMES, SELECT, SLOTS};
 
 /// What is worth telling of the table run that a call found.
@@ -29,6 +30,9 @@ impl Found {
 pub fn print(case: usize, request: &Request, found: &Found, expected: &Answer, got: &Answer) {
     println!("difference at case {case}: {:X?}", request.call);
     println!("  registers before: {}", registers(&request.registers));
+    if let Some(pool) = &request.pool {
+        println!("  pool of {} frames from pfn {} on", pool.size, pool.first);
+    }
     println!("  buffer of {} numbers", request.buffer.len());
     println!("  table run of {} words", found.words);
     match request.call {
@@ -54,6 +58,9 @@ pub fn print(case: usize, request: &Request, found: &Found, expected: &Answer, g
             println!("  {name} after: reference {ours:X}, program {theirs:X}");
         }
     }
+    if let (Some(before), Some(ours), Some(theirs)) = (&request.pool, &expected.pool, &got.pool) {
+        print_pool(before, ours, theirs);
+    }
     for (n, before) in request.buffer.iter().enumerate() {
         let (ours, theirs) = (expected.buffer[n], got.buffer[n]);
         if ours != theirs {
@@ -63,6 +70,21 @@ pub fn print(case: usize, request: &Request, found: &Found, expected: &Answer, g
     for (n, (ours, theirs)) in expected.tables.iter().zip(&got.tables).enumerate() {
         if ours != theirs {
             println!("  table word {n}: reference {ours:X}, program {theirs:X}");
+        }
+    }
+}
+
+fn print_pool(before: &Pool, ours: &Pool, theirs: &Pool) {
+    if (ours.first, ours.size) != (theirs.first, theirs.size) {
+        println!(
+            "  pool after: reference {} frames from pfn {} on, program {} from {} on",
+            ours.size, ours.first, theirs.size, theirs.first
+        );
+    }
+    for (n, before) in before.bits.iter().enumerate() {
+        let (ours, theirs) = (ours.bits[n], theirs.bits[n]);
+        if ours != theirs {
+            println!("  bits[{n}] were {before:X}, after: reference {ours:X}, program {theirs:X}");
         }
     }
 }

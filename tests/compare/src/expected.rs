@@ -1,6 +1,7 @@
 //! The answer that the reference gives to a request.
 
-use crate::protocol::{Answer, Call, Request};
+use crate::protocol::{Answer, Call, PoolCall, Request};
+use reference::heap::{self, Mapping};
 use reference::*;
 use std::rc::Rc;
 
@@ -17,6 +18,7 @@ pub fn walk_is_possible(page_id: u32, vpn: u32, tables: &[u32]) -> bool {
 /// The tables are those of the request, or the ones that an earlier request left.
 pub fn answer(request: &Request, tables: &mut Rc<Vec<u32>>) -> Answer {
     let registers = Registers::from_words(request.registers);
+    let mut pool = request.pool.clone();
     let mut buffer = request.buffer.clone();
     let mut kept = Vec::new();
     let (words, registers) = match request.call {
@@ -54,10 +56,35 @@ pub fn answer(request: &Request, tables: &mut Rc<Vec<u32>>) -> Answer {
             kept = tables.to_vec();
             ([tables.len() as u32, 0, 0, 0], registers)
         }
+        Call::OnPool(PoolCall::New { first, size }) => {
+            let (done, after) = heap::new_pool(first, size);
+            pool = Some(Box::new(after));
+            (words_of_done(done), registers)
+        }
+        Call::OnPool(PoolCall::Take) => {
+            let (taken, after) = heap::take(*request.pool());
+            pool = Some(Box::new(after));
+            (words_of_number(taken), registers)
+        }
+        Call::OnPool(PoolCall::Give { pfn }) => {
+            let (done, after) = heap::give(*request.pool(), pfn);
+            pool = Some(Box::new(after));
+            (words_of_done(done), registers)
+        }
+        Call::OnPool(PoolCall::Held) => (words_of_number(heap::held(request.pool())), registers),
+        Call::OnPool(PoolCall::Map { index, leaf }) => {
+            let tables = Rc::make_mut(tables);
+            let (Mapping { reply, pfn }, after) =
+                heap::map(registers, &mut buffer, tables, *request.pool(), index, leaf);
+            pool = Some(Box::new(after));
+            let ([word, value, loads, _], registers) = words_of_reply(reply);
+            ([word, value, loads, pfn], registers)
+        }
     };
     Answer {
         words,
         registers: registers.to_words(),
+        pool,
         buffer,
         tables: kept,
     }
@@ -81,8 +108,12 @@ pub fn words_of_outcome(outcome: Outcome, loads: u32) -> [u32; 4] {
 }
 
 fn words_of_done(done: Result<(), Refusal>) -> [u32; 4] {
-    match done {
-        Ok(()) => [DONE, 0, 0, 0],
+    words_of_number(done.map(|()| 0))
+}
+
+fn words_of_number(number: Result<u32, Refusal>) -> [u32; 4] {
+    match number {
+        Ok(number) => [DONE, number, 0, 0],
         Err(refusal) => [REFUSED, refusal.number(), 0, 0],
     }
 }

@@ -2,6 +2,7 @@
 //!
 //! Use:
 //!   compare calls PROBE [SEED] [CASES]        the single calls, by the program `probe`
+//!   compare pools PROBE [SEED] [CASES]        calls on pools of frames, by the program `probe`
 //!   compare traces MMUTRACE [SEED] [TRACES]   whole traces, by the trace program
 //!   compare reports MMUREPORT [SEED] [FILES]  reports over trace files, by the report program
 //!   compare host HOST [SEED] [CASES]          the C calls, by tests/host
@@ -17,6 +18,7 @@ mod exchange;
 mod expected;
 mod host;
 mod outcome;
+mod pools;
 mod program;
 mod protocol;
 mod put;
@@ -30,7 +32,7 @@ mod witness;
 use std::process::ExitCode;
 
 const SEED: u64 = 100;
-const USE: &str = "use: compare calls|traces|reports|host PROGRAM [SEED] [NUMBER]";
+const USE: &str = "use: compare calls|pools|traces|reports|host PROGRAM [SEED] [NUMBER]";
 
 fn compare() -> Result<bool, String> {
     let words: Vec<String> = std::env::args().skip(1).collect();
@@ -50,6 +52,7 @@ fn compare() -> Result<bool, String> {
     match &words[0][..] {
         "calls" => calls::compare(program, seed, many(calls::CASES)?),
         "host" => host::compare(program, seed, many(host::CASES)?),
+        "pools" => pools::compare(program, seed, many(pools::CASES)?),
         "reports" => reports::compare(program, seed, many(reports::FILES)?),
         "traces" => traces::compare(program, seed, many(traces::TRACES)?),
         _ => Err(USE.to_string()),

@@ -1,5 +1,6 @@
 //! The bytes of a request and of its answer.
 
+use reference::heap::{Pool, BIT_NUMBERS};
 use reference::{Access, Registers, FIELDS};
 
 #[derive(Clone, Copy, Debug)]
@@ -28,6 +29,17 @@ pub enum Call {
     },
     /// Asks for the table run that the program keeps.
     Tables,
+    /// The request and its answer have a pool.
+    OnPool(PoolCall),
+}
+
+#[derive(Clone, Copy, Debug, PartialEq, Eq)]
+pub enum PoolCall {
+    New { first: u32, size: u32 },
+    Take,
+    Give { pfn: u32 },
+    Held,
+    Map { index: u32, leaf: u32 },
 }
 
 impl Call {
@@ -43,6 +55,19 @@ impl Call {
             Call::Store { index, value } => [6, index, value, 0, 0],
             Call::Setting { number, value } => [7, number, value, 0, 0],
             Call::Tables => [8, 0, 0, 0, 0],
+            Call::OnPool(call) => call.words(),
+        }
+    }
+}
+
+impl PoolCall {
+    fn words(self) -> [u32; 5] {
+        match self {
+            PoolCall::New { first, size } => [9, first, size, 0, 0],
+            PoolCall::Take => [10, 0, 0, 0, 0],
+            PoolCall::Give { pfn } => [11, pfn, 0, 0, 0],
+            PoolCall::Held => [12, 0, 0, 0, 0],
+            PoolCall::Map { index, leaf } => [13, index, leaf, 0, 0],
         }
     }
 }
@@ -56,6 +81,8 @@ pub fn words_of_access(kind: u32, access: Access) -> [u32; 5] {
 pub struct Request {
     pub call: Call,
     pub registers: [u32; FIELDS],
+    /// None but in a call on a pool.
+    pub pool: Option<Box<Pool>>,
     pub buffer: Vec<u64>,
     /// An empty run keeps the table run as the last request left it.
     pub tables: Vec<u32>,
@@ -67,9 +94,23 @@ impl Request {
         Request {
             call,
             registers: registers.to_words(),
+            pool: None,
             buffer,
             tables: Vec::new(),
         }
+    }
+
+    /// A call on a pool that hands over no table run.
+    pub fn on_pool(call: PoolCall, registers: Registers, pool: Pool, buffer: Vec<u64>) -> Request {
+        Request {
+            pool: Some(Box::new(pool)),
+            ..Request::without_run(Call::OnPool(call), registers, buffer)
+        }
+    }
+
+    /// The pool of a call on one.
+    pub fn pool(&self) -> &Pool {
+        self.pool.as_ref().expect("a call on a pool has one")
     }
 
     pub fn to_bytes(&self) -> Vec<u8> {
@@ -78,9 +119,11 @@ impl Request {
         put_words(&mut bytes, &self.call.words());
         put_words(&mut bytes, &lengths);
         put_words(&mut bytes, &self.registers);
-        for number in &self.buffer {
-            bytes.extend(number.to_be_bytes());
+        if let Some(pool) = &self.pool {
+            put_words(&mut bytes, &[pool.first, pool.size]);
+            put_numbers(&mut bytes, &pool.bits);
         }
+        put_numbers(&mut bytes, &self.buffer);
         put_words(&mut bytes, &self.tables);
         bytes
     }
@@ -90,32 +133,51 @@ impl Request {
 pub struct Answer {
     pub words: [u32; 4],
     pub registers: [u32; FIELDS],
+    /// None but in the answer to a call on a pool.
+    pub pool: Option<Box<Pool>>,
     pub buffer: Vec<u64>,
     /// Empty but where the table run was asked for.
     pub tables: Vec<u32>,
 }
 
 impl Answer {
-    pub fn byte_length(slots: usize, words: usize) -> usize {
-        4 * (4 + FIELDS) + 8 * slots + 4 * words
+    /// The bytes of the answer to a request, with so many words of a table run.
+    pub fn byte_length(request: &Request, words: usize) -> usize {
+        let pool = match request.pool {
+            Some(_) => POOL_BYTES,
+            None => 0,
+        };
+        4 * (4 + FIELDS) + pool + 8 * request.buffer.len() + 4 * words
     }
 
     /// Takes exactly `byte_length` bytes apart.
-    pub fn from_bytes(bytes: &[u8], slots: usize) -> Answer {
-        let (head, tail) = bytes.split_at(4 * (4 + FIELDS));
-        let (buffer, tables) = tail.split_at(8 * slots);
+    pub fn from_bytes(bytes: &[u8], request: &Request) -> Answer {
+        let (head, mut tail) = bytes.split_at(4 * (4 + FIELDS));
         let head: Vec<u32> = head.chunks_exact(4).map(word_of).collect();
+        let pool = request.pool.as_ref().map(|_| {
+            let (pool, rest) = tail.split_at(POOL_BYTES);
+            tail = rest;
+            Box::new(pool_of(pool))
+        });
+        let (buffer, tables) = tail.split_at(8 * request.buffer.len());
         Answer {
             words: std::array::from_fn(|n| head[n]),
             registers: std::array::from_fn(|n| head[4 + n]),
-            buffer: buffer
-                .chunks_exact(8)
-                .map(|eight| {
-                    (u64::from(word_of(&eight[..4])) << 32) | u64::from(word_of(&eight[4..]))
-                })
-                .collect(),
+            pool,
+            buffer: buffer.chunks_exact(8).map(number_of).collect(),
             tables: tables.chunks_exact(4).map(word_of).collect(),
         }
+    }
+}
+
+/// The first pfn, the size and the bits.
+const POOL_BYTES: usize = 4 + 4 + 8 * BIT_NUMBERS;
+
+fn pool_of(bytes: &[u8]) -> Pool {
+    Pool {
+        first: word_of(&bytes[..4]),
+        size: word_of(&bytes[4..8]),
+        bits: std::array::from_fn(|n| number_of(&bytes[8 + 8 * n..16 + 8 * n])),
     }
 }
 
@@ -123,6 +185,16 @@ fn put_words(bytes: &mut Vec<u8>, words: &[u32]) {
     for word in words {
         bytes.extend(word.to_be_bytes());
     }
+}
+
+fn put_numbers(bytes: &mut Vec<u8>, numbers: &[u64]) {
+    for number in numbers {
+        bytes.extend(number.to_be_bytes());
+    }
+}
+
+fn number_of(eight: &[u8]) -> u64 {
+    (u64::from(word_of(&eight[..4])) << 32) | u64::from(word_of(&eight[4..]))
 }
 
 fn word_of(four: &[u8]) -> u32 {
@@ -142,6 +214,7 @@ mod tests {
                 value: 0x0102_0304,
             },
             registers: std::array::from_fn(|n| n as u32),
+            pool: None,
             buffer: vec![0x1122_3344_5566_7788],
             tables: vec![0xAABB_CCDD],
         };
@@ -156,12 +229,37 @@ mod tests {
 
     #[test]
     fn an_answer_is_taken_apart_in_order() {
-        let length = Answer::byte_length(1, 1);
+        let request = Request::without_run(Call::Tables, Registers::default(), vec![0]);
+        let length = Answer::byte_length(&request, 1);
         let bytes: Vec<u8> = (0..length as u8).collect();
-        let answer = Answer::from_bytes(&bytes, 1);
+        let answer = Answer::from_bytes(&bytes, &request);
         assert_eq!(answer.words[3], 0x0C0D_0E0F);
         assert_eq!(answer.registers[0], 0x1011_1213);
+        assert_eq!(answer.pool, None);
         assert_eq!(answer.buffer, [0x3C3D_3E3F_4041_4243]);
         assert_eq!(answer.tables, [0x4445_4647]);
+    }
+
+    #[test]
+    fn a_pool_stands_between_the_registers_and_the_buffer() {
+        let mut pool = Pool {
+            first: 0x0102_0304,
+            size: 0x0506_0708,
+            bits: [0; BIT_NUMBERS],
+        };
+        pool.bits[0] = 0x1112_1314_1516_1718;
+        pool.bits[63] = 0x2122_2324_2526_2728;
+        let call = PoolCall::Give { pfn: 9 };
+        let request = Request::on_pool(call, Registers::default(), pool, vec![0x31 << 56]);
+        let bytes = request.to_bytes();
+        assert_eq!(bytes.len(), 4 * (8 + 11) + 520 + 8);
+        assert_eq!(bytes[..8], [0, 0, 0, 11, 0, 0, 0, 9]);
+        assert_eq!(bytes[76..84], [1, 2, 3, 4, 5, 6, 7, 8]);
+        assert_eq!(bytes[84..86], [0x11, 0x12]);
+        assert_eq!(bytes[594..597], [0x27, 0x28, 0x31]);
+        let answer = Answer::from_bytes(&bytes[16..], &request);
+        assert_eq!(bytes.len() - 16, Answer::byte_length(&request, 0));
+        assert_eq!(answer.pool, request.pool);
+        assert_eq!(answer.buffer, request.buffer);
     }
 }

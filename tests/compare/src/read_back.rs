@@ -222,6 +222,7 @@ mod tests {
         let answer = |value| Answer {
             words: [0, value, 0, 0],
             registers: registers.to_words(),
+            pool: None,
             buffer: buffer.clone(),
             tables: Vec::new(),
         };

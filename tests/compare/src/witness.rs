@@ -20,6 +20,8 @@ const ONE_HIT: &str = "sequence: at most one hit on a page, ids 0 to 62, CTRL 0 
 const ONE_HIT_ALL: &str =
     "sequence: at most one hit on every touched page, ids 0 to 62, CTRL 0 to 7";
 
+pub const MAP_EMPTIED: &str = "sequence: the map's count is the account's";
+
 pub fn all() -> Vec<String> {
     [
         REFUSED_AS_READ,
@@ -40,8 +42,17 @@ pub fn all() -> Vec<String> {
 /// What the call itself has to answer.
 pub enum Told {
     Refused(u32),
-    Access { said: Said, loaded: bool },
-    Store { emptied: u32 },
+    Access {
+        said: Said,
+        loaded: bool,
+    },
+    Store {
+        emptied: u32,
+    },
+    /// The frame is judged elsewhere.
+    Map {
+        emptied: u32,
+    },
     Setting,
     Words(Vec<u32>),
     ReadBack(Step),
@@ -70,6 +81,13 @@ impl Witness {
     pub fn of_step(step: Step) -> Witness {
         Witness {
             told: Told::ReadBack(step),
+            left: None,
+        }
+    }
+
+    pub fn of_refusal(number: u32) -> Witness {
+        Witness {
+            told: Told::Refused(number),
             left: None,
         }
     }
@@ -103,6 +121,9 @@ impl Told {
                 ]
             }
             Told::Store { emptied } => vec![(EMPTIED, got.words == [DONE, *emptied, 0, 0])],
+            Told::Map { emptied } => {
+                vec![(MAP_EMPTIED, [word, value, loads] == [DONE, *emptied, 0])]
+            }
             Told::Setting => vec![(SET, got.words == [DONE, 0, 0, 0])],
             Told::Words(words) => vec![(WORDS_AGREE, got.tables == *words)],
             Told::ReadBack(step) => step.points(request, got),

@@ -1,5 +1,6 @@
 //! The memory unit of the ETRAX 100LX as document 01 tells it, with what requests of document 02
-//! ask for: the register read that gives the entry at SELECT, and the report over traces.
+//! ask for: the register read that gives the entry at SELECT, the report over traces, and the heap
+//! of frames above the unit.
 //!
 //! Each module is one heading of the paper, and quotes its words where a
 //! sentence decides.
@@ -8,6 +9,7 @@ mod account;
 mod address;
 mod entry;
 mod guarded;
+pub mod heap;
 pub mod host;
 mod leaf;
 mod load;
@@ -37,7 +39,7 @@ pub use load::{is_of_page, load, slot_to_load};
 pub use raw::{raw_access, translate, Access, RawAnswer, Translation, EXCEPTION_MISS};
 pub use reader::{GuardedCall, Handed, Reader, Said, SETTINGS};
 pub use refusal::{
-    check_buffer, check_draw, check_index, check_number, check_registers, check_served,
+    check_buffer, check_draw, check_index, check_number, check_pool, check_registers, check_served,
     check_setting, check_switch, check_tables, Refusal,
 };
 pub use register_read::read_register;

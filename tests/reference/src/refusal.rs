@@ -1,6 +1,7 @@
 //! The numbers a call can refuse with, and the ground of each.
 
 use crate::address::SLOTS;
+use crate::heap::{Pool, MOST_FRAMES, PFNS};
 use crate::registers::{fits, Registers, FIELD_BITS};
 
 /// The last of the guarded settings' numbers.
@@ -17,12 +18,16 @@ pub enum Refusal {
     RegisterNumber,
     Record,
     Total,
+    /// Number 1 of a call on a pool.
+    Pool,
+    PoolFull,
+    NotHeld,
 }
 
 impl Refusal {
     pub fn number(self) -> u32 {
         match self {
-            Refusal::RegisterField => 1,
+            Refusal::RegisterField | Refusal::Pool => 1,
             Refusal::BufferLength => 2,
             Refusal::TableLength => 3,
             Refusal::Draw => 4,
@@ -31,6 +36,8 @@ impl Refusal {
             Refusal::RegisterNumber => 7,
             Refusal::Record => 8,
             Refusal::Total => 9,
+            Refusal::PoolFull => 10,
+            Refusal::NotHeld => 11,
         }
     }
 }
@@ -106,6 +113,15 @@ pub fn check_number(number: u32) -> Result<(), Refusal> {
 pub fn check_setting(number: u32, value: u32) -> Result<(), Refusal> {
     if number > CONTEXT || !fits(value, FIELD_BITS[number as usize]) {
         return Err(Refusal::RegisterNumber);
+    }
+    Ok(())
+}
+
+/// Number 1 "also for a size of 0 or above 4,096, or a pool that runs past pfn 524,287".
+pub fn check_pool(pool: &Pool) -> Result<(), Refusal> {
+    let end = u64::from(pool.first) + u64::from(pool.size);
+    if pool.size == 0 || pool.size > MOST_FRAMES || end > u64::from(PFNS) {
+        return Err(Refusal::Pool);
     }
     Ok(())
 }

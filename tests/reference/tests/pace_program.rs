@@ -34,10 +34,10 @@ fn frames(pages: u64) -> u64 {
 
 #[test]
 fn nothing_is_added_for_no_calls() {
-    for scenario in 0..5 {
+    for scenario in 0..7 {
         assert_eq!(sum(scenario, 0), Some(0), "{scenario}");
     }
-    assert_eq!(sum(5, 0), None);
+    assert_eq!(sum(7, 0), None);
 }
 
 #[test]
@@ -73,4 +73,21 @@ fn looks_add_both_halves_of_each_entry() {
     assert_eq!(sum(4, 3), Some(looks(3)));
     assert_eq!(sum(4, 64), Some(looks(64)));
     assert_eq!(sum(4, 6400), Some(100 * looks(64)));
+}
+
+#[test]
+fn each_take_gives_the_frame_that_was_given_just_before() {
+    let all: u64 = (100_000..103_000).map(|pfn| 1 + pfn + 1).sum();
+    assert_eq!(sum(5, 1), Some(1 + 100_000 + 1));
+    assert_eq!(sum(5, 2), Some(2 * (1 + 100_000 + 1) + 7));
+    assert_eq!(sum(5, 3000), Some(all));
+    assert_eq!(sum(5, 30_000), Some(10 * all));
+}
+
+#[test]
+fn the_first_maps_empty_a_slot_each_and_all_map_the_lowest_free_frame() {
+    let once = 64 * (103_000 + 1 + 1);
+    assert_eq!(sum(6, 1), Some(103_000 + 2 + 1));
+    assert_eq!(sum(6, 64), Some(once + 64));
+    assert_eq!(sum(6, 6400), Some(100 * once + 64));
 }

@@ -2,15 +2,15 @@
 
 use super::steps::Steps;
 use super::tables::ask_for_tables;
+use super::witnesses::Witnesses;
 use super::world::World;
 use super::{spoil, state};
 use crate::comparison::Comparison;
 use crate::protocol::{Answer, Call, Request};
 use crate::random::Random;
-use crate::witness::{Left, LookAt, Told, Witness};
+use crate::witness::{LookAt, Told};
 use reference::*;
 use std::collections::BTreeSet;
-use std::rc::Rc;
 
 const STEPS_TO_ALL_PAGES: usize = 128;
 const STEPS_TO_ALL_WORDS: usize = 256;
@@ -19,8 +19,7 @@ const STEPS_TO_ALL_WORDS: usize = 256;
 struct Sequence {
     registers: Registers,
     buffer: Vec<u64>,
-    reader: Reader,
-    account: Rc<Account>,
+    witnesses: Witnesses,
     steps: Steps,
     touched: BTreeSet<u32>,
     /// Whether the program keeps the sequence's table run.
@@ -50,8 +49,7 @@ impl Sequence {
         Sequence {
             registers: Registers::from_words(started.registers),
             buffer: started.buffer,
-            reader: Reader::begin(words),
-            account: Rc::new(Account::begin()),
+            witnesses: Witnesses::begin(words),
             steps: Steps::new(random, world),
             touched: BTreeSet::new(),
             run_is_kept: false,
@@ -62,8 +60,10 @@ impl Sequence {
         if step.is_multiple_of(STEPS_TO_ALL_WORDS) {
             self.ask_for_words(comparison);
         }
-        let settings = self.reader.settings();
-        let call = self.steps.next_call(random, settings, self.reader.words());
+        let reader = &self.witnesses.reader;
+        let call = self
+            .steps
+            .next_call(random, reader.settings(), reader.words());
         if let Call::Served(_) = call {
             self.touched.insert(self.steps.page());
         }
@@ -79,7 +79,7 @@ impl Sequence {
             true => LookAt::AllTouched(self.all_touched()),
             false => LookAt::One(self.steps.page()),
         };
-        let witness = self.witness(&request, look_at);
+        let witness = self.witnesses.hear(&request, look_at);
         let was_refused = matches!(witness.told, Told::Refused(_));
         assert_eq!(was_refused, refused, "{:?}", request.call);
         let handed_buffer = !request.buffer.is_empty();
@@ -103,15 +103,17 @@ impl Sequence {
     fn request(&mut self, call: Call) -> Request {
         let tables = match self.run_is_kept {
             true => Vec::new(),
-            false => self.reader.words().to_vec(),
+            false => self.words().to_vec(),
         };
         self.run_is_kept = true;
         Request {
-            call,
-            registers: self.registers.to_words(),
-            buffer: self.buffer.clone(),
             tables,
+            ..Request::without_run(call, self.registers, self.buffer.clone())
         }
+    }
+
+    fn words(&self) -> &[u32] {
+        self.witnesses.reader.words()
     }
 
     /// The call spoilt, on the state as it is or on a wholly different one. Where it is handed
@@ -138,61 +140,14 @@ impl Sequence {
         if other_run {
             request.tables = World::new(random).1;
         }
-        spoil::spoil(random, &mut request, self.reader.words().len(), &grounds);
+        spoil::spoil(random, &mut request, self.words().len(), &grounds);
         self.run_is_kept = !other_run && !grounds.contains(&3);
         request
     }
 
-    /// What the reader and the account say of the call, who are told nothing but the call.
-    fn witness(&mut self, request: &Request, look_at: LookAt) -> Witness {
-        let call = match request.call {
-            Call::Served(access) => GuardedCall::Access(access),
-            Call::Store { index, value } => GuardedCall::Store { index, value },
-            Call::Setting { number, value } => GuardedCall::Setting { number, value },
-            other => panic!("{other:?} is no call of a sequence"),
-        };
-        let handed = Handed {
-            registers: Registers::from_words(request.registers),
-            buffer: request.buffer.len(),
-            tables: match request.tables.len() {
-                0 => self.reader.words().len(),
-                length => length,
-            },
-        };
-        let said = self.reader.hear(handed, call);
-        let told = match (said, call) {
-            (Said::Refused(number), _) => {
-                return Witness {
-                    told: Told::Refused(number),
-                    left: None,
-                }
-            }
-            (said, GuardedCall::Access(access)) => {
-                let slot = Rc::make_mut(&mut self.account).access(&self.reader, access);
-                Told::Access {
-                    said,
-                    loaded: slot.is_some(),
-                }
-            }
-            (_, GuardedCall::Store { .. }) => Told::Store {
-                emptied: Rc::make_mut(&mut self.account).store(&self.reader),
-            },
-            (_, GuardedCall::Setting { .. }) => Told::Setting,
-        };
-        let account = (request.buffer.len() == SLOTS).then(|| Rc::clone(&self.account));
-        Witness {
-            told,
-            left: Some(Left {
-                settings: self.reader.settings(),
-                account,
-                look_at,
-            }),
-        }
-    }
-
     /// The pages of all accesses so far and those that the slots hold.
     fn all_touched(&self) -> Vec<u32> {
-        let held = (0..SLOTS).map(|slot| vpn_of(slot, self.account.slot(slot)));
+        let held = (0..SLOTS).map(|slot| self.witnesses.page_of(slot));
         let mut pages = self.touched.clone();
         pages.extend(held);
         pages.into_iter().collect()
@@ -201,14 +156,8 @@ impl Sequence {
     /// Asks for the table run, and has all touched pages looked at.
     fn ask_for_words(&mut self, comparison: &mut Comparison) {
         let request = self.request(Call::Tables);
-        let witness = Witness {
-            told: Told::Words(self.reader.words().to_vec()),
-            left: Some(Left {
-                settings: self.reader.settings(),
-                account: Some(Rc::clone(&self.account)),
-                look_at: LookAt::AllTouched(self.all_touched()),
-            }),
-        };
+        let look_at = LookAt::AllTouched(self.all_touched());
+        let witness = self.witnesses.hear_of_words(look_at);
         comparison.put_before(Some(witness), request);
     }
 }

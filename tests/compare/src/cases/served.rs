@@ -13,10 +13,8 @@ pub fn request(
     tables: Vec<u32>,
 ) -> Request {
     Request {
-        call: Call::Served(access),
-        registers: registers.to_words(),
-        buffer,
         tables,
+        ..Request::without_run(Call::Served(access), registers, buffer)
     }
 }
 

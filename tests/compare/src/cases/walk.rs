@@ -16,10 +16,8 @@ const LENGTHS: [usize; 22] = [
 
 fn request(registers: Registers, page_id: u32, vpn: u32, tables: Vec<u32>) -> Request {
     Request {
-        call: Call::Walk { page_id, vpn },
-        registers: registers.to_words(),
-        buffer: Vec::new(),
         tables,
+        ..Request::without_run(Call::Walk { page_id, vpn }, registers, Vec::new())
     }
 }
 

@@ -65,6 +65,7 @@ pub fn of(request: &Request, runs: Runs, expected: &Answer) -> Vec<String> {
             setting::of(registers, request, (number, value), runs, expected)
         }
         Call::Tables => tables::of(runs.before),
+        Call::OnPool(call) => panic!("{call:?} is put by the comparison of pools"),
     }
 }
 

@@ -48,11 +48,7 @@ pub fn all() -> Vec<String> {
     all.extend(refused::all_fields(CALL));
     all.extend(refused::all_lengths(CALL));
     all.extend(refused::all_runs(CALL));
-    all.extend(
-        sweep::all_outside()
-            .into_iter()
-            .map(|why| judged(CALL, why)),
-    );
+    all.extend(all_outside(CALL));
     let single = [
         TEST_MODE,
         UNDER_63,
@@ -67,7 +63,14 @@ pub fn all() -> Vec<String> {
     all.extend([smallest_run(CALL), last_of_smallest(), past_smallest()]);
     let in_smallest = sweep::all_without_table().into_iter();
     all.extend(in_smallest.map(judged_in_smallest));
-    all.push(to_and_empties(CALL, Target::Unused));
+    all
+}
+
+/// The outcomes of accepted stores on states that no sequence leads to.
+pub fn all_outside(call: &str) -> Vec<String> {
+    let mut all = vec![to_and_empties(call, Target::Unused)];
+    let sweeps = sweep::all_outside().into_iter();
+    all.extend(sweeps.map(|why| judged(call, why)));
     all
 }
 
@@ -186,7 +189,7 @@ pub struct Written {
 }
 
 impl Written {
-    fn by(runs: Runs, index: u32) -> Written {
+    pub fn by(runs: Runs, index: u32) -> Written {
         let index = index as usize;
         Written {
             target: target(runs.before, index),

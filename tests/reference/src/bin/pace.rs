@@ -3,6 +3,7 @@
 //! Standard input is a scenario and a count, two words of 32 bits; standard output the sum of the
 //! answers, modulo 2^64; both most significant byte first.
 
+use reference::heap::{by_words, new_pool, Pool};
 use reference::*;
 use std::io::{self, Error, Read, Write};
 
@@ -18,6 +19,14 @@ const NAMES_FIRST: u32 = 0x8000_0001;
 /// Pages with a leaf: five for each location, one more than it has slots.
 const PAGES: u32 = 80;
 const PAGE_BYTES: u32 = 8192;
+
+/// A pool of as many frames as one can have, most of them taken.
+const FIRST_PFN: u32 = 100_000;
+const FRAMES: u32 = 4096;
+const TAKEN: u32 = 3000;
+
+/// Valid and writable, for any frame.
+const MAPPED_LEAF: u32 = 0xD000_0000;
 
 /// Number and value of each guarded setting: CTRL, CONTEXT, ENABLE.
 const SETTINGS: [(u32, u32); 3] = [(1, 7), (5, OWN_ROOT), (2, 1)];
@@ -92,6 +101,52 @@ impl Unit {
     }
 }
 
+struct Heap {
+    unit: Unit,
+    pool: Pool,
+}
+
+impl Heap {
+    fn prepared(unit: Unit) -> Heap {
+        let (_, pool) = new_pool(FIRST_PFN, FRAMES);
+        let mut heap = Heap { unit, pool };
+        for _ in 0..TAKEN {
+            heap.take();
+        }
+        heap
+    }
+
+    fn take(&mut self) -> u64 {
+        match by_words::take(&mut self.pool) {
+            Ok(pfn) => u64::from(pfn) + 1,
+            Err(refusal) => worth(Outcome::Refused(refusal)),
+        }
+    }
+
+    fn give(&mut self, pfn: u32) -> u64 {
+        match by_words::give(&mut self.pool, pfn) {
+            Ok(()) => 1,
+            Err(refusal) => worth(Outcome::Refused(refusal)),
+        }
+    }
+
+    fn give_and_take(&mut self, pfn: u32) -> u64 {
+        self.give(pfn) + self.take()
+    }
+
+    fn map_and_give(&mut self, index: u32) -> u64 {
+        let Unit {
+            registers,
+            buffer,
+            words,
+        } = &mut self.unit;
+        let pool = &mut self.pool;
+        let mapping = by_words::map(*registers, buffer, words, pool, index, MAPPED_LEAF);
+        *registers = mapping.reply.registers;
+        worth(mapping.reply.outcome) + u64::from(mapping.pfn) + self.give(mapping.pfn)
+    }
+}
+
 fn user_read(address: u32, draw: u32) -> Access {
     Access {
         address,
@@ -129,6 +184,11 @@ fn restored(i: u32) -> (u32, u32) {
     (FIRST_LEAF + page, LEAF + page + (software << 19))
 }
 
+/// A frame that is held, all of them in turn.
+fn held_frame(i: u32) -> u32 {
+    FIRST_PFN + 7 * (i % TAKEN) % TAKEN
+}
+
 fn sum(count: u32, worth: impl FnMut(u32) -> u64) -> u64 {
     (0..count).map(worth).fold(0, u64::wrapping_add)
 }
@@ -147,7 +207,15 @@ fn sum_of(scenario: u32, count: u32) -> io::Result<u64> {
             unit.store(index, value)
         }),
         4 => sum(count, |i| unit.look(i % 64)),
-        _ => return Err(Error::other("the scenario is 0 to 4")),
+        5 => {
+            let mut heap = Heap::prepared(unit);
+            sum(count, |i| heap.give_and_take(held_frame(i)))
+        }
+        6 => {
+            let mut heap = Heap::prepared(unit);
+            sum(count, |i| heap.map_and_give(FIRST_LEAF + i % 64))
+        }
+        _ => return Err(Error::other("the scenario is 0 to 6")),
     })
 }
 

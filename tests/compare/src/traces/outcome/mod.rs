@@ -78,6 +78,7 @@ impl Before {
         let answer = Answer {
             words: expected::words_of_outcome(line.outcome, line.loads),
             registers: unit.registers.to_words(),
+            pool: None,
             buffer: unit.buffer.to_vec(),
             tables: Vec::new(),
         };
