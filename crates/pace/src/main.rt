@@ -2,6 +2,8 @@
 // bytes; standard output gets the sum of the answers, eight bytes. tests/PROTOCOL.md gives the scenarios.
 ghost use Prim.Native.Nat.{_≤_, _<_};
 use access::Physical;
+use heap::Pool;
+use heap::PoolReply;
 use mmu::RawReply;
 use registers::Access;
 use registers::Outcome;
@@ -14,6 +16,9 @@ const SELECT: u32 = 6;
 const TLB_HI: u32 = 7;
 
 const TLB_LO: u32 = 8;
+
+// Where the pool of the measurements begins.
+const FIRST_PFN: u32 = 100000;
 
 // What an answer adds to the sum.
 fn worth(outcome: Outcome) -> u64 {
@@ -139,6 +144,82 @@ fn run_looks(r: Registers, buffer: &mut [u64], count: u32) -> u64 {
     sum
 }
 
+// A sum of answers, and the pool that the last call left.
+struct Frames {
+    sum: u64,
+    pool: Pool,
+}
+
+fn counted_frame(sum: u64, reply: PoolReply) -> Frames {
+    let outcome = reply.outcome;
+    let pool = reply.pool;
+    Frames {
+        sum: std::num::wrapping_add_u64(sum, worth(outcome)),
+        pool,
+    }
+}
+
+// A pool of 4,096 frames of which the first 3,000 are held.
+fn held_pool() -> Pool {
+    let fresh = heap::new_pool(FIRST_PFN, 4096);
+    let mut pool = fresh.pool;
+    let mut i: u32 = 0;
+    while i < 3000 {
+        let taken = heap::take(pool);
+        pool = taken.pool;
+        i += 1;
+    }
+    pool
+}
+
+// A frame is given and taken again.
+fn give_and_take(f: Frames, pfn: u32) -> Frames {
+    let pool = f.pool;
+    let given = counted_frame(f.sum, heap::give(pool, pfn));
+    let between = given.pool;
+    counted_frame(given.sum, heap::take(between))
+}
+
+// A frame is mapped and given back.
+fn map_and_give(
+    r: Registers,
+    buffer: &mut [u64],
+    words: &mut [u32],
+    f: Frames,
+    index: u32,
+) -> Frames {
+    let pool = f.pool;
+    let mapped = heap::map(r, buffer, words, pool, index, 3489660928);
+    let reply = mapped.reply;
+    let between = mapped.pool;
+    let sum = std::num::wrapping_add_u64(counted(f.sum, reply), mapped.pfn as u64);
+    counted_frame(sum, heap::give(between, mapped.pfn))
+}
+
+// Scenario 5.
+fn run_frames(count: u32) -> u64 {
+    let pool = held_pool();
+    let mut f = Frames { sum: 0, pool };
+    let mut i: u64 = 0;
+    while i < count as u64 {
+        f = give_and_take(f, FIRST_PFN + ((7 * i) % 3000) as u32);
+        i += 1;
+    }
+    f.sum
+}
+
+// Scenario 6.
+fn run_maps(r: Registers, buffer: &mut [u64], words: &mut [u32], count: u32) -> u64 {
+    let pool = held_pool();
+    let mut f = Frames { sum: 0, pool };
+    let mut i: u64 = 0;
+    while i < count as u64 {
+        f = map_and_give(r, buffer, words, f, 1024 + (i % 64) as u32);
+        i += 1;
+    }
+    f.sum
+}
+
 fn run(r: Registers, buffer: &mut [u64], words: &mut [u32], scenario: u32, count: u32) -> u64 {
     if scenario == 0 {
         return run_raw(r, buffer, count);
@@ -148,6 +229,12 @@ fn run(r: Registers, buffer: &mut [u64], words: &mut [u32], scenario: u32, count
     }
     if scenario == 4 {
         return run_looks(r, buffer, count);
+    }
+    if scenario == 5 {
+        return run_frames(count);
+    }
+    if scenario == 6 {
+        return run_maps(r, buffer, words, count);
     }
     run_served(r, buffer, words, scenario, count)
 }

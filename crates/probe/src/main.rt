@@ -4,6 +4,9 @@ ghost use mathlib.Core.Path.{_≡_};
 ghost use Prim.Native.Nat.{_*_, _≤_};
 ghost use lib.ListN.{length};
 use access::Physical;
+use heap::Mapped;
+use heap::Pool;
+use heap::PoolReply;
 use mmu::RawReply;
 use page_table::Walk;
 use registers::Outcome;
@@ -31,8 +34,25 @@ struct Answer {
     registers: Registers,
 }
 
+// A pool of frames that was read, or that the input ended before it.
+struct PoolRead {
+    got: bool,
+    pool: Pool,
+}
+
+// An answer with the pool after the call.
+struct PoolAnswer {
+    answer: Answer,
+    pool: Pool,
+}
+
 // In place of a number of table words: the input has ended.
 const END: usize = 16385;
+
+// The least kind of a call on a pool, and the highest kind of all.
+const POOL_KIND: u32 = 9;
+
+const LAST_KIND: u32 = 13;
 
 fn answered(first: u32, second: u32, third: u32, fourth: u32, registers: Registers) -> Answer {
     Answer {
@@ -64,6 +84,28 @@ fn read_answer(reply: Reply) -> Answer {
         Outcome::Done(value) => answered(0, value, reply.loads, 0, registers),
         Outcome::Refused(number) => answered(1, number, reply.loads, 0, registers),
     }
+}
+
+fn outcome_answer(outcome: Outcome, registers: Registers) -> Answer {
+    reply_answer(registers::answered(registers, outcome, 0))
+}
+
+fn with_pool(answer: Answer, pool: Pool) -> PoolAnswer {
+    PoolAnswer { answer, pool }
+}
+
+fn pool_answer(reply: PoolReply, registers: Registers) -> PoolAnswer {
+    let outcome = reply.outcome;
+    let pool = reply.pool;
+    with_pool(outcome_answer(outcome, registers), pool)
+}
+
+fn map_answer(mapped: Mapped) -> PoolAnswer {
+    let reply = mapped.reply;
+    let pool = mapped.pool;
+    let mut answer = reply_answer(reply);
+    answer.fourth = mapped.pfn;
+    with_pool(answer, pool)
 }
 
 fn bit(flag: bool) -> u32
@@ -164,6 +206,24 @@ fn call(q: Request, buffer: &mut [u64], tables: &mut [u32]) -> Answer
     table_call(q, buffer, tables)
 }
 
+// Makes a call on a pool.
+fn pool_call(q: Request, pool: Pool, buffer: &mut [u64], tables: &mut [u32]) -> PoolAnswer {
+    let r = q.registers;
+    if q.kind == 9 {
+        return pool_answer(heap::new_pool(q.first, q.second), r);
+    }
+    if q.kind == 10 {
+        return pool_answer(heap::take(pool), r);
+    }
+    if q.kind == 11 {
+        return pool_answer(heap::give(pool, q.first), r);
+    }
+    if q.kind == 12 {
+        return with_pool(outcome_answer(heap::held(pool), r), pool);
+    }
+    map_answer(heap::map(r, buffer, tables, pool, q.first, q.second))
+}
+
 // Fills the run from standard input, by way of the bytes; false where the input ends before.
 fn read_numbers(bytes: &mut [u8], numbers: &mut [u64]) -> bool
     requires { ⌜ length (now bytes) ≡ 8 * length (now numbers) ⌝ }
@@ -187,9 +247,7 @@ fn read_words(bytes: &mut [u8], words: &mut [u32]) -> bool
     true
 }
 
-fn write_answer(a: Answer, numbers: &[u64], bytes: &mut [u8])
-    requires { ⌜ length (now bytes) ≡ 8 * length (now numbers) ⌝ }
-{
+fn write_answer(a: Answer) {
     let mut head = [0u8; 16];
     wire::encode32(&[a.first, a.second, a.third, a.fourth], &mut head);
     io::write_all(1, &head);
@@ -198,8 +256,32 @@ fn write_answer(a: Answer, numbers: &[u64], bytes: &mut [u8])
     let mut fields = [0u8; 44];
     wire::encode32(&words, &mut fields);
     io::write_all(1, &fields);
+}
+
+fn write_numbers(numbers: &[u64], bytes: &mut [u8])
+    requires { ⌜ length (now bytes) ≡ 8 * length (now numbers) ⌝ }
+{
     wire::encode64(numbers, bytes);
     io::write_all(1, bytes);
+}
+
+fn put_bits(bits: &[u64; 64], bytes: &mut [u8])
+    requires { ⌜ length (now bytes) ≡ 512 ⌝ }
+{
+    let mut k: usize = 0;
+    while k < 64 {
+        wire::put_number(bytes, k, bits[k]);
+        k += 1;
+    }
+}
+
+fn write_pool(pool: Pool) {
+    let mut head = [0u8; 8];
+    wire::encode32(&[pool.first, pool.size], &mut head);
+    io::write_all(1, &head);
+    let mut bytes = [0u8; 512];
+    put_bits(&pool.bits, &mut bytes);
+    io::write_all(1, &bytes);
 }
 
 // Writes the table words, by way of the bytes, where the kind is 8.
@@ -218,7 +300,7 @@ fn write_tables(kind: u32, tables: &[u32], bytes: &mut [u8])
 fn requested(got: bool, w: [u32; 8], fields: [u32; 11]) -> Request {
     let registers = registers::from_words(fields);
     Request {
-        kind: if got { w[0] } else { 9 },
+        kind: if got { w[0] } else { LAST_KIND + 1 },
         first: w[1],
         second: w[2],
         third: w[3],
@@ -239,6 +321,24 @@ fn read_request() -> Request {
     requested(got, words, fields)
 }
 
+// Reads a pool where the kind has one.
+fn read_pool(kind: u32) -> PoolRead {
+    let mut bits = [0u64; 64];
+    let mut frames = [0u32; 2];
+    let mut got = true;
+    if POOL_KIND <= kind {
+        let mut head = [0u8; 8];
+        let mut bytes = [0u8; 512];
+        got = read_words(&mut head, &mut frames) & read_numbers(&mut bytes, &mut bits);
+    }
+    let pool = Pool {
+        first: frames[0],
+        size: frames[1],
+        bits,
+    };
+    PoolRead { got, pool }
+}
+
 // Reads so many table words, or none; answers how many are held then.
 fn read_tables(bytes: &mut [u8], tables: &mut [u32], count: usize, held: usize) -> usize
     requires { ⌜ (length (now bytes) ≡ 65536) × (length (now tables) ≡ 16384) × (count ≤ 16384) ⌝ }
@@ -256,6 +356,7 @@ fn read_tables(bytes: &mut [u8], tables: &mut [u32], count: usize, held: usize) 
 // Makes a request's call over its runs, and writes the answer.
 fn reply(
     q: Request,
+    pool: Pool,
     bytes: &mut [u8],
     buffer: &mut [u64],
     table_bytes: &mut [u8],
@@ -263,14 +364,25 @@ fn reply(
 )
     requires { ⌜ (length (now bytes) ≡ 8 * length (now buffer)) × (length (now «table_bytes») ≡ 65536) × (length (now tables) ≤ 16384) ⌝ }
 {
+    if POOL_KIND <= q.kind {
+        let p = pool_call(q, pool, buffer, tables);
+        let answer = p.answer;
+        let after = p.pool;
+        write_answer(answer);
+        write_pool(after);
+        write_numbers(buffer, bytes);
+        return;
+    }
     let a = call(q, buffer, tables);
-    write_answer(a, buffer, bytes);
+    write_answer(a);
+    write_numbers(buffer, bytes);
     write_tables(q.kind, tables, table_bytes);
 }
 
 // Reads a request's runs and replies; answers how many table words are held then.
 fn serve(
     q: Request,
+    p: PoolRead,
     bytes: &mut [u8],
     buffer: &mut [u64],
     table_bytes: &mut [u8],
@@ -279,6 +391,10 @@ fn serve(
 ) -> usize
     requires { ⌜ (length (now bytes) ≡ 8 * length (now buffer)) × (length (now «table_bytes») ≡ 65536) × (length (now tables) ≡ 16384) ⌝ }
 {
+    if !p.got {
+        return END;
+    }
+    let pool = p.pool;
     let words = q.words as usize;
     if 16384 < words {
         return END;
@@ -290,7 +406,7 @@ fn serve(
     if 16384 < now {
         return END;
     }
-    reply(q, bytes, buffer, table_bytes, &mut tables[..now]);
+    reply(q, pool, bytes, buffer, table_bytes, &mut tables[..now]);
     now
 }
 
@@ -306,9 +422,10 @@ fn step(
         × (length (now «table_bytes») ≡ 65536) × (length (now tables) ≡ 16384) ⌝ }
 {
     let q = read_request();
-    if 8 < q.kind {
+    if LAST_KIND < q.kind {
         return END;
     }
+    let p = read_pool(q.kind);
     let slots = q.slots as usize;
     if 80 < slots {
         return END;
@@ -316,6 +433,7 @@ fn step(
     let end = 8 * slots;
     serve(
         q,
+        p,
         &mut bytes[..end],
         &mut buffer[..slots],
         table_bytes,

@@ -8,13 +8,16 @@ read-request-requires : tie.Need-read-request-requires
 read-request-requires c κs = search needs
 
 returns : tie.Need-returns
-returns c = tt
+returns c = search needs
+
+read-pool-requires : tie.Need-read-pool-requires
+read-pool-requires c κs = search needs
 
 cast-slots : tie.Need-cast-slots
 cast-slots c = search needs
 
 returns-2 : tie.Need-returns-2
-returns-2 c = tt
+returns-2 c = search needs
 
 mul-end : tie.Need-mul-end
 mul-end c = search needs
@@ -32,12 +35,9 @@ slice-aggregate-serve-2 : tie.Need-slice-aggregate-serve-2
 slice-aggregate-serve-2 c = simp length-take (omega arith)
 
 serve-requires : tie.Need-serve-requires
-serve-requires c κs = (
-  simp length-take (omega arith),
-  c .before .before .before .before .before .before .before .before .before .before .before .before
-      .before .pre .2,
-  c .before .before .before .before .before .before .before .before .before .before .before .before .before .pre .3,
-)
+serve-requires c κs =
+    let start = c .before .before .before .before .before .before .before .before .before .before .before .before .before .before in
+    (simp length-take (omega arith), start .pre .2, start .pre .3)
 
 same-length : tie.Need-same-length
 same-length c = search needs
@@ -52,7 +52,7 @@ same-length-4 : tie.Need-same-length-4
 same-length-4 c = search needs
 
 returns-3 : tie.Need-returns-3
-returns-3 c = tt
+returns-3 c = search needs
 
 pub step-spec : {M : Type 1} → statement M
 step-spec =
@@ -60,6 +60,7 @@ step-spec =
     (tie.spec
     read-request-requires
     returns
+    read-pool-requires
     cast-slots
     returns-2
     mul-end
