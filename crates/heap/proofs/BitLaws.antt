@@ -16,8 +16,6 @@ use Rattle.runs.specs.Bits.{flag}
 use Rattle.runs.specs.Counts.{count, lowest}
 use Rattle.runs.proofs.Bools.{same-test, both}
 use Rattle.runs.proofs.Counts.{count-add, count-same, count-le, lowest-none}
-use Rattle.heap.specs.Pools.{withWord, poolWith}
-use Rattle.heap.specs.declared.Pool.{Pool}
 use Rattle.heap.specs.Bits.{heldAt, freeAt, withHeld}
 use Rattle.runs.proofs.Flags.{flag-low, flag-not, flag-none, xor-flips, ones-count, trailing, trailing-lt}
 use Rattle.runs.proofs.Counts.{lowest-is, count-below}
@@ -33,14 +31,13 @@ shift-pos k l = subst (λ (x : ℕ). 0 < x) (sym (shift-one k l)) (pow-pos k)
 pub all-low : (n k : ℕ) → n < 2 ^ 64 → 64 ≤ k → n ≡ n % 2 ^ k
 all-low n k h l = sym (mod-eq-of-lt (lt-of-lt-of-le h (pow-mono l)))
 
--- a pool with one bit flipped
-pub flipped-pool : (p after : Pool) (place word : ℕ) → word ≡ getD (p .bits) (place / 64) 0
-    → after ≡ withWord (place / 64) (bitXor word (1 * 2 ^ (place % 64) % 2 ^ 64)) p
-    → after ≡ poolWith (not (heldAt (p .bits) place)) place p
-unfolding poolWith withHeld heldAt
-flipped-pool p after place word wq q =
-    q ∙ ap (λ (w : ℕ). withWord (place / 64) w p)
-    (ap₂ bitXor wq (shift-one (place % 64) (omega arith)) ∙ xor-flips (place % 64) (getD (p .bits) (place / 64) 0))
+-- one bit flipped
+pub flipped-bit : (bits after : List ℕ) (place word : ℕ) → word ≡ getD bits (place / 64) 0
+    → after ≡ set bits (place / 64) (bitXor word (1 * 2 ^ (place % 64) % 2 ^ 64)) → after ≡ withHeld (not (heldAt bits place)) place bits
+unfolding withHeld heldAt
+flipped-bit bits after place word wq q =
+    q ∙ ap (set bits (place / 64))
+    (ap₂ bitXor wq (shift-one (place % 64) (omega arith)) ∙ xor-flips (place % 64) (getD bits (place / 64) 0))
 
 -- the bit at a place of the word k
 held-in : (bits : List ℕ) (k word j : ℕ) → word ≡ getD bits k 0 → j < 64 → heldAt bits (64 * k + j) ≡ flag j word

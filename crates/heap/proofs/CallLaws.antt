@@ -3,6 +3,7 @@ use Prim.Native.Nat.{ℕ, _+_, _-_, _≤_, _<_}
 use mathlib.Core.Path.{_≡_, refl, sym, ap, _∙_, subst}
 use mathlib.Core.Logic.{_≢_, ⊎-elim}
 use mathlib.Core.Bool.{Bool, true, false, not, _&&_}
+use mathlib.Core.List.{List}
 use native.Mathlib.Omega.{arith}
 use lib.Dec.{leb, ltb}
 use borrow.Author.Tests.{not-true, not-false, leb-true, ltb-true}
@@ -14,7 +15,7 @@ use Rattle.registers.specs.Replies.{refusalOf}
 use Rattle.registers.specs.declared.Outcome.{Outcome}
 use Rattle.registers.specs.declared.Outcome.the-variants.{Done, Refused}
 use Rattle.registers.proofs.RefusalLaws.{refuse-here, refuse-later, when-accepted, when-refused, told-refusal}
-use Rattle.heap.specs.Bits.{heldAt, freeAt}
+use Rattle.heap.specs.Bits.{heldAt, freeAt, withHeld}
 use Rattle.heap.specs.Pools.{framesFit, poolFits, isFull, lowestFree, heldFrames, holds, poolWith, donePool, refusedPool}
 use Rattle.heap.specs.NewPool.{newRefusal, newReply, clearPool, NewPoolGives}
 use Rattle.heap.specs.Take.{fullRefusal, takeRefusal, takenPfn, takenPool, takeReply, TakeGives}
@@ -104,10 +105,13 @@ module _ (p : Pool) where
     unfolding takenPfn
     pfn-is = ap (λ (k : ℕ). p .first + k) pq
 
-    pub pool-after : (after : Pool) → after ≡ poolWith (not (heldAt (p .bits) place)) place p → after ≡ takenPool p
-    unfolding takenPool
-    pool-after after q =
-        q ∙ ap (λ (k : ℕ). poolWith (not (heldAt (p .bits) k)) k p) pq ∙ ap (λ (b : Bool). poolWith (not b) (lowestFree p) p) (found .was-free)
+    pub pool-after : (bits : List ℕ) → bits ≡ withHeld (not (heldAt (p .bits) place)) place (p .bits)
+        → record { first = p .first; size = p .size; bits = bits } ≡ takenPool p
+    unfolding takenPool poolWith
+    pool-after bits q =
+        ap (λ (x : List ℕ). record { first = p .first; size = p .size; bits = x })
+        (q ∙ ap (λ (k : ℕ). withHeld (not (heldAt (p .bits) k)) k (p .bits)) pq
+        ∙ ap (λ (b : Bool). withHeld (not b) (lowestFree p) (p .bits)) (found .was-free))
 
   -- take, give and held: where the pool does not fit, and where it does
   module _ (t : Bool) (tq : t ≡ framesFit (p .first) (p .size)) where
@@ -166,10 +170,13 @@ module _ (p : Pool) where
       unfolding giveReply
       give-done nq q = give-gives (pool-done _ _ _ _ 0 nq reply refl q)
 
-    pub pool-back : holds p pfn ≡ true → (after : Pool) → after ≡ poolWith (not (heldAt (p .bits) (pfn - p .first))) (pfn - p .first) p
-        → after ≡ givenPool p pfn
-    unfolding givenPool
-    pool-back h after q = q ∙ ap (λ (b : Bool). poolWith (not b) (pfn - p .first) p) (held-pfn h .is-held)
+    pub pool-back : holds p pfn ≡ true → (bits : List ℕ)
+        → bits ≡ withHeld (not (heldAt (p .bits) (pfn - p .first))) (pfn - p .first) (p .bits)
+        → record { first = p .first; size = p .size; bits = bits } ≡ givenPool p pfn
+    unfolding givenPool poolWith
+    pool-back h bits q =
+        ap (λ (x : List ℕ). record { first = p .first; size = p .size; bits = x })
+        (q ∙ ap (λ (b : Bool). withHeld (not b) (pfn - p .first) (p .bits)) (held-pfn h .is-held))
 
   -- held
   module _ (outcome : Outcome) where

@@ -17,7 +17,7 @@ use Rattle.store.specs.Rewrite.{Put, RewriteGives}
 use Rattle.store.specs.Sweep.{emptied}
 use Rattle.store.specs.TableStore.{storeRefusal, storedWords, storeReply, TableStoreGives}
 use Rattle.store.proofs.StoreLaws.{store-done}
-use Rattle.heap.specs.Bits.{heldAt}
+use Rattle.heap.specs.Bits.{heldAt, withHeld}
 use Rattle.heap.specs.Pools.{framesFit, poolFits, lowestFree, poolWith}
 use Rattle.heap.specs.Take.{fullRefusal, takenPfn, takenPool}
 use Rattle.heap.specs.Map.{mapRefusal, mappedWord, mapPut, refusedMap, mapAnswer, bufferAfterMap, wordsAfterMap, MayMap, MapGives}
@@ -114,14 +114,16 @@ module _ (m : Machine) (p : Pool) (index leaf : ℕ) where
     accepted : 0 ≡ mapRefusal m p index
     accepted = may-accepted m p index place may
 
-    pub map-done : (value emptied : ℕ) (reply : Reply) (pool : Pool) (after : Buffer) (words : List ℕ)
+    pub map-done : (value emptied : ℕ) (reply : Reply) (bits : List ℕ) (after : Buffer) (words : List ℕ)
         → value ≡ mappedWord leaf (p .first + place)
         → RewriteGives ((record { index = index; value = value }) ∷ []) (m .words) words (m .buffer) after emptied
         → reply ≡ done (m .registers) emptied
-        → pool ≡ poolWith (not (heldAt (p .bits) place)) place p
-        → MapGives m p index leaf (record { reply = reply; pfn = p .first + place; pool = pool }) after words
+        → bits ≡ withHeld (not (heldAt (p .bits) place)) place (p .bits)
+        → MapGives m p index leaf
+        (record { reply = reply; pfn = p .first + place; pool = record { first = p .first; size = p .size; bits = bits } })
+        after words
     unfolding mapAnswer bufferAfterMap wordsAfterMap mapPut
-    map-done value emptied reply pool after words vq r q pool-is =
+    map-done value emptied reply bits after words vq r q bits-are =
         map-gives (record { reply = reply; pfn = p .first + place; pool = pool }) after words
         (when-accepted _ 0 accepted _ _ _ refl (λ i. record { reply = stored .reply-is i; pfn = pfn i; pool = pool-now i }))
         (when-accepted _ 0 accepted _ _ _ refl (stored .buffer-is))
@@ -130,8 +132,11 @@ module _ (m : Machine) (p : Pool) (index leaf : ℕ) where
         pfn : p .first + place ≡ takenPfn p
         pfn = pfn-is p (may .pool-fits) place (may .place-is) (may .not-full)
 
+        pool : Pool
+        pool = record { first = p .first; size = p .size; bits = bits }
+
         pool-now : pool ≡ takenPool p
-        pool-now = pool-after p (may .pool-fits) place (may .place-is) (may .not-full) pool pool-is
+        pool-now = pool-after p (may .pool-fits) place (may .place-is) (may .not-full) bits bits-are
 
         put-is : _≡_ {A = Put} (record { index = index; value = value }) (mapPut p index leaf)
         put-is = λ i. record { index = index; value = (vq ∙ ap (mappedWord leaf) pfn) i }

@@ -3,7 +3,6 @@
 use Prim.Native.Nat.{ℕ, _+_, _-_}
 use mathlib.Core.Bool.{Bool, _&&_}
 use lib.Dec.{leb, ltb}
-use lib.ListN.{set}
 use Rattle.runs.specs.Counts.{all, count, lowest}
 use Rattle.registers.specs.declared.Outcome.the-variants.{Done, Refused}
 use Rattle.heap.specs.Bits.{heldAt, freeAt, withHeld}
@@ -36,10 +35,7 @@ heldFrames p = count (heldAt (p .bits)) (p .size)
 unfoldable pub holds : Pool → (pfn : ℕ) → Bool
 holds p pfn = leb (p .first) pfn && ltb pfn (p .first + p .size) && heldAt (p .bits) (pfn - p .first)
 
--- the pool with another word of bits, and with the frame at a place held or free
-abbrev pub withWord : (k word : ℕ) → Pool → Pool
-withWord k word p = record { first = p .first; size = p .size; bits = set (p .bits) k word }
-
+-- the pool with the frame at a place held or free
 unfoldable pub poolWith : (held : Bool) (place : ℕ) → Pool → Pool
 poolWith held place p = record { first = p .first; size = p .size; bits = withHeld held place (p .bits) }
 

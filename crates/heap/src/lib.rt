@@ -1,14 +1,14 @@
 // A heap of frames above the unit: a pool of up to 4,096 frames, from which frames are taken, given back, and mapped.
-ghost use mathlib.Core.Bool.{true, not};
+ghost use mathlib.Core.Bool.{not};
 ghost use mathlib.Core.Path.{_≡_};
 ghost use Prim.Native.Nat.{_≤_, _<_, _%_, _^_};
 ghost use lib.Count.{trailingZeros};
-ghost use lib.ListN.{getD};
+ghost use lib.ListN.{getD, set};
 ghost use Rattle.runs.specs.Counts.{count, lowest};
 ghost use Rattle.slots.specs.Buffer.{Buffer};
-ghost use Rattle.heap.specs.Bits.{freeAt, heldAt};
+ghost use Rattle.heap.specs.Bits.{freeAt, heldAt, withHeld};
 ghost use Rattle.heap.specs.Pools as pools;
-ghost use Rattle.heap.specs.Pools.{donePool, framesFit, poolWith, refusedPool, withWord};
+ghost use Rattle.heap.specs.Pools.{framesFit, refusedPool};
 ghost use Rattle.heap.specs.NewPool.{NewPoolGives, clearPool};
 ghost use Rattle.heap.specs.Take.{TakeGives};
 ghost use Rattle.heap.specs.Give.{GiveGives};
@@ -110,48 +110,36 @@ fn held_at(bits: &[u64; 64], place: u32) -> bool
     (word_at(bits, place / 64) >> (place % 64)) % 2 == 1
 }
 
-// Whether a pfn is that of a held frame of the pool.
-fn holds(pool: Pool, pfn: u32) -> bool
-    requires { ⌜ pools.poolFits pool ≡ true ⌝ }
-    ensures { λ b. ⌜ b ≡ pools.holds pool pfn ⌝ }
+// Whether a pfn is that of a held frame of the pool with these fields.
+fn holds(first: u32, size: u32, bits: &[u64; 64], pfn: u32) -> bool
+    requires { ⌜ size ≤ 4096 ⌝ }
+    ensures { λ b. ⌜ b ≡ pools.holds (record { first = first; size = size; bits = now (bits .entry) }) pfn ⌝ }
 {
-    if pfn < pool.first {
+    if pfn < first {
         return false;
     }
-    let place = pfn - pool.first;
-    if pool.size <= place {
+    let place = pfn - first;
+    if size <= place {
         return false;
     }
-    held_at(&pool.bits, place)
+    held_at(bits, place)
 }
 
-// The pool with another word of bits.
-fn with_word(pool: Pool, k: u32, word: u64) -> Pool
+fn put_word(bits: &mut [u64; 64], k: u32, word: u64)
     requires { ⌜ k < 64 ⌝ }
-    ensures { λ p. ⌜ p ≡ withWord k word pool ⌝ }
+    ensures { λ _. ⌜ now (bits .exit) ≡ set (now (bits .entry)) k word ⌝ }
 {
-    let mut after = pool;
-    after.bits[k as usize] = word;
-    after
+    bits[k as usize] = word;
 }
 
-// The pool with the bit at a place flipped: a free frame becomes held, and a held one free.
-fn flip(pool: Pool, place: u32) -> Pool
+// Flips the bit at a place: a free frame becomes held, and a held one free.
+fn flip(bits: &mut [u64; 64], place: u32)
     requires { ⌜ place < 4096 ⌝ }
-    ensures { λ p. ⌜ p ≡ poolWith (not (heldAt (pool .bits) place)) place pool ⌝ }
+    ensures { λ _. ⌜ now (bits .exit) ≡ withHeld (not (heldAt (now (bits .entry)) place)) place (now (bits .entry)) ⌝ }
 {
     let k = place / 64;
-    let word = word_at(&pool.bits, k);
-    with_word(pool, k, word ^ (1u64 << (place % 64)))
-}
-
-fn done(value: u32, pool: Pool) -> PoolReply
-    ensures { λ s. ⌜ s ≡ donePool value pool ⌝ }
-{
-    PoolReply {
-        outcome: Outcome::Done(value),
-        pool,
-    }
+    let word = word_at(bits, k);
+    put_word(bits, k, word ^ (1u64 << (place % 64)));
 }
 
 fn refused(number: u32, pool: Pool) -> PoolReply
@@ -181,11 +169,15 @@ pub fn new_pool(first: u32, size: u32) -> PoolReply
     if !frames_fit(first, size) {
         return refused(1, clear_pool(0, 0));
     }
-    done(0, clear_pool(first, size))
+    let pool = clear_pool(first, size);
+    PoolReply {
+        outcome: Outcome::Done(0),
+        pool,
+    }
 }
 
 // Takes the lowest free frame. The outcome is Done with its pfn.
-pub fn take(pool: Pool) -> PoolReply
+pub fn take(mut pool: Pool) -> PoolReply
     ensures { λ s. ⌜ TakeGives pool s ⌝ }
 {
     if !frames_fit(pool.first, pool.size) {
@@ -195,20 +187,30 @@ pub fn take(pool: Pool) -> PoolReply
     if place == pool.size {
         return refused(10, pool);
     }
-    done(pool.first + place, flip(pool, place))
+    flip(&mut pool.bits, place);
+    let pfn = pool.first + place;
+    PoolReply {
+        outcome: Outcome::Done(pfn),
+        pool,
+    }
 }
 
 // Gives a held frame back. The outcome is Done with 0.
-pub fn give(pool: Pool, pfn: u32) -> PoolReply
+pub fn give(mut pool: Pool, pfn: u32) -> PoolReply
     ensures { λ s. ⌜ GiveGives pool pfn s ⌝ }
 {
     if !frames_fit(pool.first, pool.size) {
         return refused(1, pool);
     }
-    if !holds(pool, pfn) {
+    if !holds(pool.first, pool.size, &pool.bits, pfn) {
         return refused(11, pool);
     }
-    done(0, flip(pool, pfn - pool.first))
+    let place = pfn - pool.first;
+    flip(&mut pool.bits, place);
+    PoolReply {
+        outcome: Outcome::Done(0),
+        pool,
+    }
 }
 
 // The number of frames held. The outcome is Done with it.
@@ -245,7 +247,7 @@ fn map_frame(
     r: Registers,
     buffer: &mut [u64],
     words: &mut [u32],
-    pool: Pool,
+    mut pool: Pool,
     place: u32,
     index: u32,
     leaf: u32,
@@ -258,12 +260,8 @@ fn map_frame(
     let pfn = pool.first + place;
     let emptied = store::rewrite(buffer, words, index, mapped_word(leaf, pfn));
     let reply = registers::done(r, emptied);
-    let after = flip(pool, place);
-    Mapped {
-        reply,
-        pfn,
-        pool: after,
-    }
+    flip(&mut pool.bits, place);
+    Mapped { reply, pfn, pool }
 }
 
 // Takes the lowest free frame and stores, at a word of the page tables, a leaf with its pfn. The reply is the table store's.

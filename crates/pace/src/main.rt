@@ -2,8 +2,8 @@
 // bytes; standard output gets the sum of the answers, eight bytes. tests/PROTOCOL.md gives the scenarios.
 ghost use Prim.Native.Nat.{_≤_, _<_};
 use access::Physical;
+use heap::Mapped;
 use heap::Pool;
-use heap::PoolReply;
 use mmu::RawReply;
 use registers::Access;
 use registers::Outcome;
@@ -144,19 +144,8 @@ fn run_looks(r: Registers, buffer: &mut [u64], count: u32) -> u64 {
     sum
 }
 
-// A sum of answers, and the pool that the last call left.
-struct Frames {
-    sum: u64,
-    pool: Pool,
-}
-
-fn counted_frame(sum: u64, reply: PoolReply) -> Frames {
-    let outcome = reply.outcome;
-    let pool = reply.pool;
-    Frames {
-        sum: std::num::wrapping_add_u64(sum, worth(outcome)),
-        pool,
-    }
+fn added(sum: u64, outcome: Outcome) -> u64 {
+    std::num::wrapping_add_u64(sum, worth(outcome))
 }
 
 // A pool of 4,096 frames of which the first 3,000 are held.
@@ -172,52 +161,46 @@ fn held_pool() -> Pool {
     pool
 }
 
-// A frame is given and taken again.
-fn give_and_take(f: Frames, pfn: u32) -> Frames {
-    let pool = f.pool;
-    let given = counted_frame(f.sum, heap::give(pool, pfn));
-    let between = given.pool;
-    counted_frame(given.sum, heap::take(between))
-}
-
-// A frame is mapped and given back.
-fn map_and_give(
-    r: Registers,
-    buffer: &mut [u64],
-    words: &mut [u32],
-    f: Frames,
-    index: u32,
-) -> Frames {
-    let pool = f.pool;
-    let mapped = heap::map(r, buffer, words, pool, index, 3489660928);
-    let reply = mapped.reply;
-    let between = mapped.pool;
-    let sum = std::num::wrapping_add_u64(counted(f.sum, reply), mapped.pfn as u64);
-    counted_frame(sum, heap::give(between, mapped.pfn))
-}
-
-// Scenario 5.
+// Scenario 5: a frame is given and taken again.
 fn run_frames(count: u32) -> u64 {
-    let pool = held_pool();
-    let mut f = Frames { sum: 0, pool };
+    let mut pool = held_pool();
+    let mut sum: u64 = 0;
     let mut i: u64 = 0;
     while i < count as u64 {
-        f = give_and_take(f, FIRST_PFN + ((7 * i) % 3000) as u32);
+        let given = heap::give(pool, FIRST_PFN + ((7 * i) % 3000) as u32);
+        let given_outcome = given.outcome;
+        pool = given.pool;
+        let taken = heap::take(pool);
+        let taken_outcome = taken.outcome;
+        pool = taken.pool;
+        sum = added(added(sum, given_outcome), taken_outcome);
         i += 1;
     }
-    f.sum
+    sum
 }
 
-// Scenario 6.
+// What a map adds to the sum.
+fn counted_map(sum: u64, mapped: Mapped) -> u64 {
+    let reply = mapped.reply;
+    std::num::wrapping_add_u64(counted(sum, reply), mapped.pfn as u64)
+}
+
+// Scenario 6: a frame is mapped and given back.
 fn run_maps(r: Registers, buffer: &mut [u64], words: &mut [u32], count: u32) -> u64 {
-    let pool = held_pool();
-    let mut f = Frames { sum: 0, pool };
+    let mut pool = held_pool();
+    let mut sum: u64 = 0;
     let mut i: u64 = 0;
     while i < count as u64 {
-        f = map_and_give(r, buffer, words, f, 1024 + (i % 64) as u32);
+        let mapped = heap::map(r, buffer, words, pool, 1024 + (i % 64) as u32, 3489660928);
+        sum = counted_map(sum, mapped);
+        pool = mapped.pool;
+        let given = heap::give(pool, mapped.pfn);
+        let outcome = given.outcome;
+        sum = added(sum, outcome);
+        pool = given.pool;
         i += 1;
     }
-    f.sum
+    sum
 }
 
 fn run(r: Registers, buffer: &mut [u64], words: &mut [u32], scenario: u32, count: u32) -> u64 {

@@ -1,6 +1,5 @@
 use mathlib.Core.Path.{sym, _∙_}
-use native.Mathlib.Omega.{arith}
-use Rattle.heap.proofs.PoolLaws.{pool-in, holds-below, holds-past, holds-inside}
+use Rattle.heap.proofs.PoolLaws.{holds-below, holds-past, holds-inside}
 use borrow.Author.Needs.{needs}
 use Rattle.heap.proofs.holds.Statement.{statement}
 use Rattle.heap.proofs.holds.Tie as tie
@@ -8,17 +7,14 @@ use Rattle.heap.proofs.holds.Tie as tie
 returns : tie.Need-returns
 returns c = holds-below _ _ (c .if1 .taken)
 
-sub-place : tie.Need-sub-place
-sub-place c = search needs
-
 returns-2 : tie.Need-returns-2
 returns-2 c = holds-past _ _ (c .before .if1 .left) (c .if2 .taken)
 
 held-at-requires : tie.Need-held-at-requires
-held-at-requires c κs = omega (arith, pool-in _ (c .before .before .before .before .pre) .at-most)
+held-at-requires c κs = search needs
 
 returns-3 : tie.Need-returns-3
-returns-3 c = c .held-at .ensures ∙ sym (holds-inside _ _ (c .before .before .before .before .if1 .left) (c .before .before .before .if2 .left))
+returns-3 c = c .held-at .ensures ∙ sym (holds-inside _ _ (c .before .before .if1 .left) (c .before .if2 .left))
 
 pub holds-spec : {M : Type 1} → statement M
-holds-spec = tie.close (tie.spec returns sub-place returns-2 held-at-requires returns-3)
+holds-spec = tie.close (tie.spec returns returns-2 held-at-requires returns-3)

@@ -22,13 +22,9 @@ returns c =
 clear-pool-requires-2 : tie.Need-clear-pool-requires-2
 clear-pool-requires-2 c κs = search needs
 
-done-requires : tie.Need-done-requires
-done-requires c κs = search needs
-
 returns-2 : tie.Need-returns-2
 returns-2 c =
-    new-done _ _ _ (c .before .before .before .frames-fit .ensures) _ (c .before .before .if1 .left)
-    (c .done .ensures ∙ ap (donePool 0) (c .before .clear-pool2 .ensures))
+    new-done _ _ _ (c .before .before .frames-fit .ensures) _ (c .before .if1 .left) (ap (donePool 0) (c .clear-pool2 .ensures))
 
 pub new-pool-spec : {M : Type 1} → statement M
 new-pool-spec =
@@ -39,5 +35,4 @@ new-pool-spec =
     refused-requires
     returns
     clear-pool-requires-2
-    done-requires
     returns-2)

@@ -22,8 +22,7 @@ returns c =
     take-refused _ _ 1 refusal (λ z. omega arith) (c .refused .ensures)
 
 lowest-free-requires : tie.Need-lowest-free-requires
-lowest-free-requires c κs =
-    frames-now _ _ _ (c .before .before .before .frames-fit .ensures) (c .before .before .if1 .left) .at-most
+lowest-free-requires c κs = frames-now _ _ _ (c .before .before .before .frames-fit .ensures) (c .before .before .if1 .left) .at-most
 
 refused-requires-2 : tie.Need-refused-requires-2
 refused-requires-2 c κs = search needs
@@ -32,26 +31,23 @@ returns-2 : tie.Need-returns-2
 unfolding takeRefusal lowestFree
 returns-2 c =
     let full = full-refusal _ (sym (c .before .before .lowest-free .ensures) ∙ c .before .if2 .taken) in
-    let test = c .before .before .before .before .before .before .frames-fit .ensures in
-    let refusal = fit _ _ test 10 _ (c .before .before .before .before .before .if1 .left) full in
+    let tested = c .before .before .before .before .before .if1 .left in
+    let refusal = fit _ _ (c .before .before .before .before .before .before .frames-fit .ensures) 10 _ tested full in
     take-refused _ _ 10 refusal (λ z. omega arith) (c .refused2 .ensures)
-
-add-done : tie.Need-add-done
-unfolding lowestFree
-add-done c =
-    let test = c .before .before .before .before .before .frames-fit .ensures in
-    let tested = c .before .before .before .before .if1 .left in
-    omega (arith, place-room _ (fits-now _ _ test tested) _ (c .before .lowest-free .ensures) (c .if2 .left))
 
 flip-requires : tie.Need-flip-requires
 unfolding lowestFree
 flip-requires c κs =
-    let test = c .before .before .before .before .before .frames-fit .ensures in
-    let tested = c .before .before .before .before .if1 .left in
-    omega (arith, place-room _ (fits-now _ _ test tested) _ (c .before .lowest-free .ensures) (c .if2 .left))
+    let test = c .before .before .before .before .before .before .frames-fit .ensures in
+    let tested = c .before .before .before .before .before .if1 .left in
+    omega (arith, place-room _ (fits-now _ _ test tested) _ (c .before .before .lowest-free .ensures) (c .before .if2 .left))
 
-done-requires : tie.Need-done-requires
-done-requires c κs = search needs
+add-pfn : tie.Need-add-pfn
+unfolding lowestFree
+add-pfn c =
+    let test = c .before .before .before .before .before .before .before .frames-fit .ensures in
+    let tested = c .before .before .before .before .before .before .if1 .left in
+    omega (arith, place-room _ (fits-now _ _ test tested) _ (c .before .before .before .lowest-free .ensures) (c .before .before .if2 .left))
 
 returns-3 : tie.Need-returns-3
 unfolding takeRefusal lowestFree
@@ -62,7 +58,7 @@ returns-3 c =
     let place = c .before .before .before .lowest-free .ensures in
     let free = c .before .before .if2 .left in
     take-done _ _ (fit _ _ test 0 _ tested (no-full-refusal _ (λ e. free (place ∙ e))))
-    (c .done .ensures ∙ ap₂ donePool (pfn-is _ fits _ place free) (pool-after _ fits _ place free _ (c .before .flip .ensures)))
+    (ap₂ donePool (pfn-is _ fits _ place free) (pool-after _ fits _ place free _ (c .flip .ensures)))
 
 pub take-spec : {M : Type 1} → statement M
 take-spec =
@@ -74,7 +70,6 @@ take-spec =
     lowest-free-requires
     refused-requires-2
     returns-2
-    add-done
     flip-requires
-    done-requires
+    add-pfn
     returns-3)

@@ -4,10 +4,10 @@ use Rattle.pace.proofs.run_frames.Statement.{statement}
 use Rattle.pace.proofs.run_frames.Tie as tie
 
 abbrev Inv-loop : tie.InvT-loop
-Inv-loop count f₀ i₀ f i = Unit {0}
+Inv-loop count pool₀ sum₀ i₀ pool sum i = Unit {0}
 
 abbrev μ-loop : tie.MeasureT-loop
-μ-loop count f₀ i₀ f i = count - i
+μ-loop count pool₀ sum₀ i₀ pool sum i = count - i
 
 held-pool-requires : tie.Need-held-pool-requires Inv-loop μ-loop
 held-pool-requires c κs = tt
@@ -15,17 +15,26 @@ held-pool-requires c κs = tt
 loop-holds : tie.Need-loop-holds Inv-loop μ-loop
 loop-holds c = tt
 
-mul-give-and-take : tie.Need-mul-give-and-take Inv-loop μ-loop
-mul-give-and-take c = omega arith
+mul-give : tie.Need-mul-give Inv-loop μ-loop
+mul-give c = omega arith
 
-cast-give-and-take : tie.Need-cast-give-and-take Inv-loop μ-loop
-cast-give-and-take c = omega arith
+cast-give : tie.Need-cast-give Inv-loop μ-loop
+cast-give c = omega arith
 
-add-give-and-take : tie.Need-add-give-and-take Inv-loop μ-loop
-add-give-and-take c = omega arith
+add-give : tie.Need-add-give Inv-loop μ-loop
+add-give c = omega arith
 
-give-and-take-requires : tie.Need-give-and-take-requires Inv-loop μ-loop
-give-and-take-requires c κs = tt
+give-requires : tie.Need-give-requires Inv-loop μ-loop
+give-requires c κs = tt
+
+take-requires : tie.Need-take-requires Inv-loop μ-loop
+take-requires c κs = tt
+
+added-requires : tie.Need-added-requires Inv-loop μ-loop
+added-requires c κs = tt
+
+added-requires-2 : tie.Need-added-requires-2 Inv-loop μ-loop
+added-requires-2 c κs = tt
 
 add-i : tie.Need-add-i Inv-loop μ-loop
 add-i c = omega arith
@@ -47,10 +56,13 @@ run-frames-spec =
     μ-loop
     held-pool-requires
     loop-holds
-    mul-give-and-take
-    cast-give-and-take
-    add-give-and-take
-    give-and-take-requires
+    mul-give
+    cast-give
+    add-give
+    give-requires
+    take-requires
+    added-requires
+    added-requires-2
     add-i
     loop-less
     loop-again

@@ -1,5 +1,5 @@
 use Prim.Native.Nat.{_-_}
-use mathlib.Core.Path.{_≡_}
+use mathlib.Core.Path.{_≡_, _∙_}
 use native.Mathlib.Omega.{arith}
 use lib.ListN.{length}
 use borrow.Author.Needs.{needs}
@@ -7,10 +7,10 @@ use Rattle.pace.proofs.run_maps.Statement.{statement}
 use Rattle.pace.proofs.run_maps.Tie as tie
 
 abbrev Inv-loop : tie.InvT-loop
-Inv-loop r buffer₀ words₀ count f₀ i₀ buffer words f i = (length buffer ≡ length buffer₀) × (length words ≡ length words₀)
+Inv-loop r buffer₀ words₀ count pool₀ sum₀ i₀ buffer words pool sum i = (length buffer ≡ length buffer₀) × (length words ≡ length words₀)
 
 abbrev μ-loop : tie.MeasureT-loop
-μ-loop r buffer₀ words₀ count f₀ i₀ buffer words f i = count - i
+μ-loop r buffer₀ words₀ count pool₀ sum₀ i₀ buffer words pool sum i = count - i
 
 held-pool-requires : tie.Need-held-pool-requires Inv-loop μ-loop
 held-pool-requires c κs = tt
@@ -18,23 +18,34 @@ held-pool-requires c κs = tt
 loop-holds : tie.Need-loop-holds Inv-loop μ-loop
 loop-holds c = search needs
 
-cast-map-and-give : tie.Need-cast-map-and-give Inv-loop μ-loop
-cast-map-and-give c = omega arith
+cast-map : tie.Need-cast-map Inv-loop μ-loop
+cast-map c = omega arith
 
-add-map-and-give : tie.Need-add-map-and-give Inv-loop μ-loop
-add-map-and-give c = omega arith
+add-map : tie.Need-add-map Inv-loop μ-loop
+add-map c = omega arith
 
-map-and-give-requires : tie.Need-map-and-give-requires Inv-loop μ-loop
-map-and-give-requires c κs = tt
+map-requires : tie.Need-map-requires Inv-loop μ-loop
+map-requires c κs = tt
+
+counted-map-requires : tie.Need-counted-map-requires Inv-loop μ-loop
+counted-map-requires c κs = tt
+
+give-requires : tie.Need-give-requires Inv-loop μ-loop
+give-requires c κs = tt
+
+added-requires : tie.Need-added-requires Inv-loop μ-loop
+added-requires c κs = tt
 
 add-i : tie.Need-add-i Inv-loop μ-loop
-add-i c = omega arith
+add-i c = omega (arith, c .before .before .before .before .before .before .before .before .before .before .before .before .loop-test .taken, c .before .before .before .before .before .before .before .before .before .before .before .before .before .before .before .before .before .fits .count)
 
 loop-less : tie.Need-loop-less Inv-loop μ-loop
 loop-less c = omega arith
 
 loop-again : tie.Need-loop-again Inv-loop μ-loop
-loop-again c = search needs
+loop-again c =
+    let loop = c .before .before .before .before .before .before .before .before .before .before .before .before .before .loop .inv in
+    (c .before .before .before .before .before .before .before .before .buffer .given ∙ loop .0, c .before .before .before .before .before .before .words .given ∙ loop .1)
 
 same-length : tie.Need-same-length Inv-loop μ-loop
 same-length c = search needs
@@ -53,9 +64,12 @@ run-maps-spec =
     μ-loop
     held-pool-requires
     loop-holds
-    cast-map-and-give
-    add-map-and-give
-    map-and-give-requires
+    cast-map
+    add-map
+    map-requires
+    counted-map-requires
+    give-requires
+    added-requires
     add-i
     loop-less
     loop-again
