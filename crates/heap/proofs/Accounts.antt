@@ -25,7 +25,8 @@ use Rattle.heap.specs.Pools.{poolFits, isFull, lowestFree, heldFrames, h
 use Rattle.heap.specs.Take.{fullRefusal, takeRefusal, takenPfn, takenPool, takeReply, TakeGives}
 use Rattle.heap.specs.Give.{giveRefusal, givenPool, giveReply, GiveGives}
 use Rattle.heap.specs.Map.{mapPut, mapAnswer, MapGives}
-use Rattle.heap.specs.Histories.{Event, Kept, poolLeft, KeptThroughout, lastPool, ifDone, answeredPfn, takenBy, givenBy, takenIn, givenIn, times}
+use Rattle.heap.specs.Histories.{Event, Kept, poolLeft, KeptThroughout, lastPool}
+use Rattle.heap.specs.Histories.{ifDone, answeredPfn, takenBy, givenBy, takenIn, givenIn, times}
 use Rattle.heap.specs.Histories.Event.{Take, Give, Map}
 use Rattle.heap.specs.declared.Pool.{Pool}
 use Rattle.heap.specs.declared.PoolReply.{PoolReply}

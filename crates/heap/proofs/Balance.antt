@@ -73,7 +73,10 @@ module _ (first size : ℕ) where
       held-answers =
           rw (told .sound-still .fits) (ap Done held);
       gives-within = omega (arith, counts);
-      each-frame = λ pfn. sym (add-zero (times pfn (takenIn history))) ∙ ap (λ (b : Bool). times pfn (takenIn history) + bit b) (sym (holds-none pfn)) ∙ told .frame pfn;
+      each-frame = λ pfn.
+          sym (add-zero (times pfn (takenIn history)))
+          ∙ ap (λ (b : Bool). times pfn (takenIn history) + bit b) (sym (holds-none pfn))
+          ∙ told .frame pfn;
     }
       where
         now : Pool

@@ -67,7 +67,8 @@ module _ (bits : List ℕ) (size : ℕ) where
   none-end word none l = sym (lowest-none (freeAt bits) size size (λ i h. none i (omega arith) h))
 
   -- the free word of the word k: its complement within the size
-  module _ (k word free : ℕ) (wq : word ≡ getD bits k 0) (fits : word < 2 ^ 64) (fq : free ≡ (2 ^ 64 - 1 - word) % 2 ^ (size - 64 * k)) where
+  module _ (k word free : ℕ) (wq : word ≡ getD bits k 0) (fits : word < 2 ^ 64)
+      (fq : free ≡ (2 ^ 64 - 1 - word) % 2 ^ (size - 64 * k)) where
     pub free-lt : free < 2 ^ 64
     free-lt = subst (λ (n : ℕ). n < 2 ^ 64) (sym fq) (low-lt (2 ^ 64 - 1 - word) (size - 64 * k) (omega arith))
 
@@ -81,7 +82,8 @@ module _ (bits : List ℕ) (size : ℕ) where
     free-false j l e h = sym (free-flag j l ∙ ap (λ (b : Bool). b && freeAt bits (64 * k + j)) (lt-ltb (64 * k + j) size h)) ∙ e
 
     -- what stands below the free word's bit t
-    below : NoneFree k → (t : ℕ) → t ≤ 64 → ((j : ℕ) → j < t → flag j free ≡ false) → (i : ℕ) → i < 64 * k + t → i < size → freeAt bits i ≡ false
+    below : NoneFree k → (t : ℕ) → t ≤ 64 → ((j : ℕ) → j < t → flag j free ≡ false)
+        → (i : ℕ) → i < 64 * k + t → i < size → freeAt bits i ≡ false
     below none t tl clear i l h = by-test (ltb i (64 * k)) refl
       where
         by-test : (b : Bool) → ltb i (64 * k) ≡ b → freeAt bits i ≡ false
@@ -95,7 +97,8 @@ module _ (bits : List ℕ) (size : ℕ) where
     pub none-turn : NoneFree k → free ≡ 0 → NoneFree (k + 1)
     none-turn none z i l h = below none 64 (omega arith) (λ j jl. ap (flag j) z ∙ flag-none j) i (omega arith) h
 
-    pub free-found : NoneFree k → free ≢ 0 → (64 * k + trailingZeros 64 free ≡ lowest (freeAt bits) size size) × (trailingZeros 64 free < 64)
+    pub free-found : NoneFree k → free ≢ 0
+        → (64 * k + trailingZeros 64 free ≡ lowest (freeAt bits) size size) × (trailingZeros 64 free < 64)
     free-found none ne =
         let t = trailingZeros 64 free in
         let tl = trailing-lt 64 free free-lt ne in

@@ -183,7 +183,9 @@ module _ (p : Pool) where
     held-gives : outcome ≡ heldOutcome p → HeldGives p outcome
     unfolding heldOutcome refusalOf
     held-gives q = record {
-      refusal-is = ap refusalOf q ∙ told-refusal (heldRefusal p) (Done (heldFrames p)) (Refused (heldRefusal p)) (λ (o : Outcome). o) (λ z. refl) refl;
+      refusal-is =
+          ap refusalOf q
+          ∙ told-refusal (heldRefusal p) (Done (heldFrames p)) (Refused (heldRefusal p)) (λ (o : Outcome). o) (λ z. refl) refl;
       outcome-is = q;
     }
 

@@ -64,7 +64,8 @@ module _ (m : Machine) (p : Pool) (index leaf : ℕ) (answer : Mapped) (after : 
   word-there : getD words index 0 ≡ mappedWord leaf (takenPfn p)
   unfolding wordsAfterStore storedWords written mapPut
   word-there =
-      ap (λ (ws : List ℕ). getD ws index 0) (store-made .words-are ∙ sym (when-accepted _ 0 (sym (grounds .store-accepted)) _ _ _ refl refl))
+      ap (λ (ws : List ℕ). getD ws index 0)
+      (store-made .words-are ∙ sym (when-accepted _ 0 (sym (grounds .store-accepted)) _ _ _ refl refl))
       ∙ getD-set-same (m .words) index _ 0 (store-accepted m index (grounds .store-accepted) .2)
 
   stores-leaf : StoresLeaf m p index leaf answer after words

@@ -55,7 +55,8 @@ module _ (p q : Pool) (same : SameFrames p q) where
   unfolding holds
   holds-same pfn =
       by-bounds (leb (p .first) pfn && ltb pfn (p .first + p .size)) refl
-      ∙ ap₂ (λ (first size : ℕ). leb first pfn && ltb pfn (first + size) && heldAt (q .bits) (pfn - first)) (same .first-same) (same .size-same)
+      ∙ ap₂ (λ (first size : ℕ). leb first pfn && ltb pfn (first + size) && heldAt (q .bits) (pfn - first))
+      (same .first-same) (same .size-same)
     where
       by-bounds : (b : Bool) → leb (p .first) pfn && ltb pfn (p .first + p .size) ≡ b
           → b && heldAt (p .bits) (pfn - p .first) ≡ b && heldAt (q .bits) (pfn - p .first)
@@ -93,14 +94,15 @@ module _ (p q : Pool) (same : SameFrames p q) where
         ∙ sym (by-part (takeRefusal q) _ _ (λ (s : PoolReply). s .outcome));
     give-alike = λ pfn.
         by-part _ _ _ (λ (s : PoolReply). s .outcome)
-        ∙ ap₂ (λ (b c : Bool). byRefusal (refuseUnless b 1 (refuseUnless c 11 0)) (Done 0) (Refused (refuseUnless b 1 (refuseUnless c 11 0))))
-        fits-same (holds-same pfn)
+        ∙ ap (λ (n : ℕ). byRefusal n (Done 0) (Refused n))
+        (ap₂ (λ (b c : Bool). refuseUnless b 1 (refuseUnless c 11 0)) fits-same (holds-same pfn))
         ∙ sym (by-part _ _ _ (λ (s : PoolReply). s .outcome));
     held-alike =
         ap₂ (λ (b : Bool) (n : ℕ). byRefusal (refuseUnless b 1 0) (Done n) (Refused (refuseUnless b 1 0))) fits-same held-same;
     map-reply-alike = λ m index leaf.
         by-part _ _ _ (λ (a : Mapped). a .reply)
-        ∙ ap₂ (λ (n : ℕ) (put : Put). byRefusal n (storeReply m put) (refused (m .registers) n)) (map-refusal-same m index) (put-same index leaf)
+        ∙ ap₂ (λ (n : ℕ) (put : Put). byRefusal n (storeReply m put) (refused (m .registers) n))
+        (map-refusal-same m index) (put-same index leaf)
         ∙ sym (by-part _ _ _ (λ (a : Mapped). a .reply));
     map-pfn-alike = λ m index leaf.
         by-part _ _ _ (λ (a : Mapped). a .pfn)

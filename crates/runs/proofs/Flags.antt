@@ -67,7 +67,8 @@ with-zero b n = let e = low-bit n in omega arith
 with-suc : (b : Bool) (k n : ℕ) → withFlag b (suc k) n ≡ withFlag b k (n / 2) * 2 + n % 2
 unfolding withFlag
 with-suc b k n =
-    let out : bit (flag (suc k) n) * 2 ^ suc k ≡ 2 * (bit (flag k (n / 2)) * 2 ^ k) = double (flag (suc k) n) (flag k (n / 2)) (flag-suc k n) in
+    let out : bit (flag (suc k) n) * 2 ^ suc k ≡ 2 * (bit (flag k (n / 2)) * 2 ^ k) =
+    double (flag (suc k) n) (flag k (n / 2)) (flag-suc k n) in
     let into : bit b * 2 ^ suc k ≡ 2 * (bit b * 2 ^ k) = double b b refl in
     let l = part-le k (n / 2) in
     rw (out, into) (omega arith)
@@ -87,7 +88,9 @@ with-other b (suc j) zero n h =
     let e = with-zero b n in let l = bit-le b in high-same j (withFlag b 0 n) (n / 2) (omega arith) ∙ sym (flag-suc j n)
 with-other b (suc j) (suc k) n h =
     let e = with-suc b k n in
-    high-same j (withFlag b (suc k) n) (withFlag b k (n / 2)) (omega arith) ∙ with-other b j k (n / 2) (λ q. h (ap suc q)) ∙ sym (flag-suc j n)
+    high-same j (withFlag b (suc k) n) (withFlag b k (n / 2)) (omega arith)
+    ∙ with-other b j k (n / 2) (λ q. h (ap suc q))
+    ∙ sym (flag-suc j n)
 
 -- an exclusive or with one bit flips it
 pub xor-flips : (k n : ℕ) → bitXor n (2 ^ k) ≡ withFlag (not (flag k n)) k n
@@ -153,7 +156,8 @@ ones-count (suc w) n h =
     let p = twice w in
     ones-step n
     ∙ ap₂ _+_ (sym (zero-add (bit (flag 0 n)) ∙ low-bit n))
-    (ones-count w (n / 2) (omega arith) ∙ count-same (λ k. flag k (n / 2)) (λ k. flag (1 + k) n) w (λ k l. sym (ap (λ (j : ℕ). flag j n) (one-add k) ∙ flag-suc k n)))
+    (ones-count w (n / 2) (omega arith)
+    ∙ count-same (λ k. flag k (n / 2)) (λ k. flag (1 + k) n) w (λ k l. sym (ap (λ (j : ℕ). flag j n) (one-add k) ∙ flag-suc k n)))
     ∙ sym (ap (count (λ k. flag k n)) (sym (one-add w)) ∙ count-add (λ k. flag k n) 1 w)
 
 -- the zeros below the lowest set bit

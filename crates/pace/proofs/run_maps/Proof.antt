@@ -37,7 +37,9 @@ added-requires : tie.Need-added-requires Inv-loop μ-loop
 added-requires c κs = tt
 
 add-i : tie.Need-add-i Inv-loop μ-loop
-add-i c = omega (arith, c .before .before .before .before .before .before .before .before .before .before .before .before .loop-test .taken, c .before .before .before .before .before .before .before .before .before .before .before .before .before .before .before .before .before .fits .count)
+add-i c =
+    let turn = c .before .before .before .before .before .before .before .before .before .before .before .before in
+    omega (arith, turn .loop-test .taken, turn .before .before .before .before .before .fits .count)
 
 loop-less : tie.Need-loop-less Inv-loop μ-loop
 loop-less c = omega arith
@@ -45,7 +47,8 @@ loop-less c = omega arith
 loop-again : tie.Need-loop-again Inv-loop μ-loop
 loop-again c =
     let loop = c .before .before .before .before .before .before .before .before .before .before .before .before .before .loop .inv in
-    (c .before .before .before .before .before .before .before .before .buffer .given ∙ loop .0, c .before .before .before .before .before .before .words .given ∙ loop .1)
+    let buffer = c .before .before .before .before .before .before .before .before .buffer .given in
+    (buffer ∙ loop .0, c .before .before .before .before .before .before .words .given ∙ loop .1)
 
 same-length : tie.Need-same-length Inv-loop μ-loop
 same-length c = search needs

@@ -51,10 +51,12 @@ slice-aggregate-reply c = simp length-take (omega arith)
 
 reply-requires : tie.Need-reply-requires
 reply-requires c κs =
-    let start = c .before .before .before .before .before .before .before .before .before .before .before .before .before .before .before .before .before .before .before .before .before .before .before .before .before .before .before .before .before in
-    let read-bytes = c .before .before .before .before .before .before .before .before .before .before .before .before .before .before .before .before .bytes .given in
-    let read-buffer = c .before .before .before .before .before .before .before .before .before .before .before .before .before .before .buffer .given in
-    let read-table = c .before .before .before .before .before .before .before .before .table-bytes .given in
+    let tables = c .before .before .before .before .before .before .before .before in
+    let read = tables .before .before .before .before .before .before .before .before in
+    let start = read .before .before .before .before .before .before .before .before .before .before .before .before .before in
+    let read-bytes = read .bytes .given in
+    let read-buffer = tables .before .before .before .before .before .before .buffer .given in
+    let read-table = tables .table-bytes .given in
     (omega (arith, start .pre .0, read-bytes, read-buffer), omega (arith, start .pre .1, read-table), simp length-take (omega arith))
 
 same-length-7 : tie.Need-same-length-7
