@@ -22,7 +22,9 @@ returns c =
     take-refused _ _ 1 refusal (λ z. omega arith) (c .refused .ensures)
 
 lowest-free-requires : tie.Need-lowest-free-requires
-lowest-free-requires c κs = frames-now _ _ _ (c .before .before .before .frames-fit .ensures) (c .before .before .if1 .left) .at-most
+lowest-free-requires c κs =
+    let fits = frames-now _ _ _ (c .before .before .before .frames-fit .ensures) (c .before .before .if1 .left) in
+    fits .at-most
 
 refused-requires-2 : tie.Need-refused-requires-2
 refused-requires-2 c κs = search needs
