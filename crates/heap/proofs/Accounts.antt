@@ -26,7 +26,7 @@ use Rattle.heap.specs.Take.{fullRefusal, takeRefusal, takenPfn, takenPoo
 use Rattle.heap.specs.Give.{giveRefusal, givenPool, giveReply, GiveGives}
 use Rattle.heap.specs.Map.{mapPut, mapAnswer, MapGives}
 use Rattle.heap.specs.Histories.{Event, Kept, poolLeft, KeptThroughout, lastPool}
-use Rattle.heap.specs.Histories.{ifDone, answeredPfn, takenBy, givenBy, takenIn, givenIn, times}
+use Rattle.heap.specs.Histories.{ifDone, doneValue, takenBy, givenBy, takenIn, givenIn, times}
 use Rattle.heap.specs.Histories.Event.{Take, Give, Map}
 use Rattle.heap.specs.declared.Pool.{Pool}
 use Rattle.heap.specs.declared.PoolReply.{PoolReply}
@@ -118,32 +118,22 @@ module _ (p : Pool) (sound : Sound p) (b : Bool) (place : ℕ) (inside : place <
           ap₂ _+_ (picked-never b pfn (p .first + place) ne ∙ sym (picked-never (not b) pfn (p .first + place) ne))
           (ap bit (sym (mark-rest p sound b place inside was pfn ne)))
 
+-- the frame that a take finds
+module _ (p : Pool) (h : fullRefusal p ≡ 0) where
+  pub free-frame : Found p
+  unfolding fullRefusal
+  free-frame =
+      let some-free = passed (not (isFull p)) 10 0 (λ e. omega arith) h .0 in
+      search-found p (λ e. clash (search-full p e) (not-true (isFull p) some-free))
+
+pub taken-below : (p : Pool) → poolFits p ≡ true → fullRefusal p ≡ 0 → takenPfn p < 2 ^ 19
+unfolding takenPfn
+taken-below p fits h = omega (arith, pool-in p fits .in-memory, free-frame p h .inside)
+
 module _ (p : Pool) (sound : Sound p) where
-  module _ (h : fullRefusal p ≡ 0) where
-    free-frame : Found p
-    unfolding fullRefusal
-    free-frame =
-        let some-free = passed (not (isFull p)) 10 0 (λ e. omega arith) h .0 in
-        search-found p (λ e. clash (search-full p e) (not-true (isFull p) some-free))
-
-    pub frame-taken : Account p (takenPool p) (takenPfn p ∷ []) []
-    unfolding takenPool takenPfn
-    frame-taken = one-frame p sound true (lowestFree p) (free-frame .inside) (free-frame .was-free)
-
-    -- the frame itself: its pfn is one of the machine's, it was free, and it is held now
-    pub record Moved : Type 0 where
-      pub below : takenPfn p < 2 ^ 19
-      pub was-free : holds p (takenPfn p) ≡ false
-      pub held-now : holds (takenPool p) (takenPfn p) ≡ true
-
-    pub frame-moves : Moved
-    unfolding takenPool takenPfn
-    frame-moves =
-        let this = mark-this p sound true (lowestFree p) (free-frame .inside) (free-frame .was-free) in record {
-          below = omega (arith, pool-in p (sound .fits) .in-memory, free-frame .inside);
-          was-free = this .0;
-          held-now = this .1;
-        }
+  pub frame-taken : fullRefusal p ≡ 0 → Account p (takenPool p) (takenPfn p ∷ []) []
+  unfolding takenPool takenPfn
+  frame-taken h = one-frame p sound true (lowestFree p) (free-frame p h .inside) (free-frame p h .was-free)
 
   pub frame-given : (pfn : ℕ) → holds p pfn ≡ true → Account p (givenPool p pfn) [] (pfn ∷ [])
   unfolding givenPool
@@ -159,7 +149,7 @@ module _ (p : Pool) (sound : Sound p) where
   Told e = Account p (poolLeft e) (takenBy e) (givenBy e)
 
   take-told : (reply : PoolReply) → TakeGives p reply → Told (Take reply)
-  unfolding poolLeft takenBy givenBy ifDone answeredPfn takeReply takeRefusal
+  unfolding poolLeft takenBy givenBy doneValue takeReply takeRefusal
   take-told reply kept =
       ⊎-elim
       (λ done.

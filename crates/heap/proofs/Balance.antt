@@ -1,11 +1,12 @@
 -- The balance from a new pool, and that no frame is live twice. Assumes nothing.
 use Prim.Native.Nat.{ℕ, _+_, _-_, _/_, _%_}
-use mathlib.Core.Path.{_≡_, refl, sym, ap, _∙_, subst}
-use mathlib.Core.Bool.{Bool, false, _&&_}
+use mathlib.Core.Path.{_≡_, refl, sym, ap, ap₂, _∙_, subst}
+use mathlib.Core.Bool.{Bool, true, false, _&&_}
 use mathlib.Core.List.{List, [], _∷_, _++_}
 use native.Mathlib.Nat.{add-zero}
 use native.Mathlib.Omega.{arith}
 use lib.Dec.{leb, ltb}
+use borrow.Author.Tests.{lt-ltb, le-ltb}
 use lib.ListN.{length, length-replicate}
 use Rattle.runs.specs.Bits.{flag, bit}
 use Rattle.runs.proofs.Bools.{and-false}
@@ -15,17 +16,24 @@ use Rattle.registers.specs.Refusals.{refuseUnless, byRefusal}
 use Rattle.registers.specs.declared.Outcome.the-variants.{Done}
 use Rattle.registers.proofs.RefusalLaws.{passed, when-accepted}
 use Rattle.heap.specs.Bits.{heldAt, freeAt}
-use Rattle.heap.specs.Pools.{framesFit, poolFits, freeFrames, heldFrames, holds}
+use Rattle.heap.specs.Pools.{framesFit, poolFits, isFull, freeFrames, heldFrames, holds}
 use Rattle.heap.specs.NewPool.{newRefusal, clearPool, newReply, NewPoolGives}
+use Rattle.heap.specs.Take.{fullRefusal, takeRefusal}
+use Rattle.heap.specs.Give.{giveRefusal}
 use Rattle.heap.specs.Held.{heldRefusal, heldOutcome}
 use Rattle.heap.specs.Histories.{Event, poolLeft, KeptThroughout, lastPool, takenIn, givenIn, times}
 use Rattle.heap.specs.Balance.{heldBy, Balanced, Balance, NeverTwiceLive}
 use Rattle.heap.specs.declared.Pool.{Pool}
 use Rattle.heap.specs.declared.PoolReply.{PoolReply}
 use Rattle.runs.proofs.Flags.{flag-none}
-use Rattle.runs.proofs.Counts.{count-both}
+use Rattle.runs.proofs.Counts.{count-both, not-all}
 use Rattle.heap.proofs.Marks.{Sound}
 use Rattle.heap.proofs.Accounts.{Account, account, account-of, taken-now}
+
+-- one more of t than of g, or as many
+by-bit : (b : Bool) (g t : ℕ) → t ≡ g + bit b → b ≡ ltb g t
+by-bit true g t e = sym (lt-ltb g t (omega arith))
+by-bit false g t e = sym (le-ltb g t (omega arith))
 
 -- a pool with no bit set
 module _ (first size : ℕ) where
@@ -63,7 +71,7 @@ module _ (first size : ℕ) where
         (account (reply .pool) new-sound history kept)
 
     balanced : (history : List Event) → KeptThroughout (reply .pool) history → Balanced first size history (lastPool (reply .pool) history)
-    unfolding clearPool heldBy freeFrames heldFrames freeAt heldOutcome heldRefusal byRefusal refuseUnless
+    unfolding clearPool heldBy freeFrames heldFrames freeAt isFull heldOutcome heldRefusal takeRefusal fullRefusal giveRefusal byRefusal refuseUnless
     balanced history kept = record {
       first-stays = told .first-same;
       size-stays = told .size-same;
@@ -73,10 +81,12 @@ module _ (first size : ℕ) where
       held-answers =
           rw (told .sound-still .fits) (ap Done held);
       gives-within = omega (arith, counts);
-      each-frame = λ pfn.
-          sym (add-zero (times pfn (takenIn history)))
-          ∙ ap (λ (b : Bool). times pfn (takenIn history) + bit b) (sym (holds-none pfn))
-          ∙ told .frame pfn;
+      take-refused =
+          rw (told .sound-still .fits)
+          (ap (λ (b : Bool). refuseUnless b 10 0)
+          (not-all (heldAt (now .bits)) (now .size) ∙ ap₂ ltb held (told .size-same)));
+      each-frame = frame-now;
+      give-refused = λ pfn. rw (told .sound-still .fits) (ap (λ (b : Bool). refuseUnless b 11 0) (more-taken pfn));
     }
       where
         now : Pool
@@ -87,6 +97,16 @@ module _ (first size : ℕ) where
 
         counts : length (takenIn history) ≡ length (givenIn history) + heldFrames now
         counts = let f = told .frames in omega (arith, no-frames)
+
+        frame-now : (pfn : ℕ) → times pfn (takenIn history) ≡ times pfn (givenIn history) + bit (holds now pfn)
+        frame-now pfn =
+            sym (add-zero (times pfn (takenIn history)))
+            ∙ ap (λ (b : Bool). times pfn (takenIn history) + bit b) (sym (holds-none pfn))
+            ∙ told .frame pfn
+
+        more-taken : (pfn : ℕ) → holds now pfn ≡ ltb (times pfn (givenIn history)) (times pfn (takenIn history))
+        more-taken pfn =
+            by-bit (holds now pfn) (times pfn (givenIn history)) (times pfn (takenIn history)) (frame-now pfn)
 
         held : heldFrames now ≡ length (takenIn history) - length (givenIn history)
         held = let c = counts in omega arith

@@ -4,6 +4,7 @@ pub mod CallLaws
 pub mod MapLaws
 pub mod Marks
 pub mod Accounts
+pub mod OneFrame
 pub mod Balance
 pub mod Histories
 pub mod Mapping

@@ -1,14 +1,14 @@
 -- An accepted map is a table store of the given leaf with a frame that was free. Assumes nothing.
 use Prim.Native.Nat.{ℕ, _/_, _%_, _^_, _<_}
-use mathlib.Core.Path.{_≡_, refl, sym, ap, _∙_, subst, subst₂}
-use mathlib.Core.Bool.{true, false}
+use mathlib.Core.Path.{_≡_, refl, sym, ap, ap₂, _∙_, subst}
 use mathlib.Core.List.{List}
 use native.Mathlib.Omega.{arith}
 use lib.Dec.{eqb}
 use borrow.Author.Tests.{eq-eqb}
-use lib.ListN.{length, getD}
+use lib.ListN.{getD}
 use lib.Seq.{getD-set-same}
-use Rattle.runs.specs.Bits.{bits, flag}
+use Rattle.runs.specs.Bits.{flag}
+use Rattle.registers.specs.Refusals.{refuseUnless}
 use Rattle.registers.proofs.RefusalLaws.{when-accepted}
 use Rattle.page_table.specs.Words.{present, leafValid, leafKernel, leafWe, leafPfn}
 use Rattle.slots.specs.Buffer.{Buffer}
@@ -16,15 +16,15 @@ use Rattle.store.specs.Machine.{Machine}
 use Rattle.store.specs.Rewrite.{written}
 use Rattle.store.specs.TableStore.{storedWords, storeReply, wordsAfterStore, TableStoreGives}
 use Rattle.store.proofs.StoreLaws.{store-accepted, store-gives}
-use Rattle.heap.specs.Pools.{holds}
-use Rattle.heap.specs.Take.{takenPfn, takenPool}
+use Rattle.heap.specs.Pools.{donePool}
+use Rattle.heap.specs.Take.{takeRefusal, takenPfn, takenPool}
 use Rattle.heap.specs.Map.{mapRefusal, mappedWord, mapPut, mapAnswer, bufferAfterMap, wordsAfterMap, MapGives}
 use Rattle.heap.specs.Mapping.{LeafWith, StoresLeaf, MapStoresLeaf}
 use Rattle.heap.specs.declared.Pool.{Pool}
 use Rattle.heap.specs.declared.Mapped.{Mapped}
 use Rattle.heap.proofs.MapLaws.{Grounds, map-grounds}
-use Rattle.heap.proofs.Marks.{Sound}
-use Rattle.heap.proofs.Accounts.{frame-moves}
+use Rattle.heap.proofs.CallLaws.{take-done}
+use Rattle.heap.proofs.Accounts.{taken-below}
 
 same-flag : (k m n : ℕ) → m / 2 ^ k % 2 ≡ n / 2 ^ k % 2 → flag k m ≡ flag k n
 same-flag k m n e = ap (λ (x : ℕ). eqb x 1) e
@@ -39,15 +39,13 @@ word-fields leaf pfn l = record {
   same-we = same-flag 28 (mappedWord leaf pfn) leaf (omega arith);
   same-software = omega arith;
   pfn-is = omega arith;
+  one-word = omega arith;
 }
 
-module _ (m : Machine) (p : Pool) (index leaf : ℕ) (answer : Mapped) (after : Buffer) (words : List ℕ) (long : length (p .bits) ≡ 64)
+module _ (m : Machine) (p : Pool) (index leaf : ℕ) (answer : Mapped) (after : Buffer) (words : List ℕ)
     (kept : MapGives m p index leaf answer after words) (z : mapRefusal m p index ≡ 0) where
   grounds : Grounds m p index
   grounds = map-grounds m p index z
-
-  sound : Sound p
-  sound = record { all-words = long; fits = grounds .pool-fits }
 
   answer-now : answer ≡ record { reply = storeReply m (mapPut p index leaf); pfn = takenPfn p; pool = takenPool p }
   unfolding mapAnswer
@@ -68,21 +66,26 @@ module _ (m : Machine) (p : Pool) (index leaf : ℕ) (answer : Mapped) (after : 
       (store-made .words-are ∙ sym (when-accepted _ 0 (sym (grounds .store-accepted)) _ _ _ refl refl))
       ∙ getD-set-same (m .words) index _ 0 (store-accepted m index (grounds .store-accepted) .2)
 
+  take-now : takeRefusal p ≡ 0
+  unfolding takeRefusal refuseUnless
+  take-now = rw (grounds .pool-fits) (grounds .not-full)
+
   stores-leaf : StoresLeaf m p index leaf answer after words
   unfolding mapPut
   stores-leaf =
-      let frame = frame-moves p sound (grounds .not-full) in
-      let pfn : takenPfn p ≡ answer .pfn = sym (ap (λ (a : Mapped). a .pfn) answer-now) in
-      let pool : takenPool p ≡ answer .pool = sym (ap (λ (a : Mapped). a .pool) answer-now) in record {
+      let pfn = ap (λ (a : Mapped). a .pfn) answer-now in
+      let pool = ap (λ (a : Mapped). a .pool) answer-now in record {
+        take-accepted = take-now;
+        take-made = take-done p (donePool (answer .pfn) (answer .pool)) (sym take-now) (ap₂ donePool pfn pool);
         value = mappedWord leaf (takenPfn p);
+        store-accepted = grounds .store-accepted;
         store-made = store-made;
         stored = word-there;
         leaf-with =
-            subst (λ (n : ℕ). LeafWith leaf n (mappedWord leaf (takenPfn p))) pfn (word-fields leaf (takenPfn p) (frame .below));
-        was-free = subst (λ (n : ℕ). holds p n ≡ false) pfn (frame .was-free);
-        held-now = subst₂ (λ (q : Pool) (n : ℕ). holds q n ≡ true) pool pfn (frame .held-now);
+            subst (λ (n : ℕ). LeafWith leaf n (mappedWord leaf (takenPfn p))) (sym pfn)
+            (word-fields leaf (takenPfn p) (taken-below p (grounds .pool-fits) (grounds .not-full)));
       }
 
 pub map-stores-leaf : MapStoresLeaf
 unfolding MapStoresLeaf
-map-stores-leaf m p index leaf answer after words long kept z = stores-leaf m p index leaf answer after words long kept z
+map-stores-leaf m p index leaf answer after words kept z = stores-leaf m p index leaf answer after words kept z

@@ -1,4 +1,4 @@
--- What a pool that fits tells, which of its frames are held, and the ways through the calls on it. Assumes nothing.
+-- What a pool that fits tells, and which of its frames are held. Assumes nothing.
 use Prim.Native.Nat.{ℕ, _+_, _-_, _≤_, _<_}
 use mathlib.Core.Path.{_≡_, sym, _∙_}
 use mathlib.Core.Bool.{Bool, true, false, not, _&&_}

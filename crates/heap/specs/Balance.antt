@@ -3,11 +3,15 @@ use Prim.Native.Nat.{ℕ, _+_, _-_, _≤_}
 use mathlib.Core.Path.{_≡_}
 use mathlib.Core.Bool.{true}
 use mathlib.Core.List.{List, [], _∷_, _++_}
+use lib.Dec.{ltb}
 use lib.ListN.{length}
 use Rattle.runs.specs.Bits.{bit}
+use Rattle.registers.specs.Refusals.{refuseUnless}
 use Rattle.registers.specs.declared.Outcome.the-variants.{Done}
 use Rattle.heap.specs.Pools.{poolFits, freeFrames, heldFrames, holds}
 use Rattle.heap.specs.NewPool.{newRefusal, NewPoolGives}
+use Rattle.heap.specs.Take.{takeRefusal}
+use Rattle.heap.specs.Give.{giveRefusal}
 use Rattle.heap.specs.Held.{heldOutcome}
 use Rattle.heap.specs.Histories.{Event, KeptThroughout, lastPool, takenBy, takenIn, givenIn, times}
 use Rattle.heap.specs.declared.Pool.{Pool}
@@ -30,8 +34,13 @@ pub record Balanced (first size : ℕ) (history : List Event) (p : Pool) : Type 
   pub held-answers : heldOutcome p ≡ Done (heldBy history)
   -- it is a difference: no more gives were accepted than takes and mappings
   pub gives-within : length (givenIn history) ≤ length (takenIn history)
-  -- of every frame: it was taken once more than given where it is held, else as often. So no frame has two live takes
+  -- a take is "refused with 10 exactly when every frame is held", by the history
+  pub take-refused : takeRefusal p ≡ refuseUnless (ltb (heldBy history) size) 10 0
+  -- of every frame: it was taken once more than given where it is held, else as often
   pub each-frame : (pfn : ℕ) → times pfn (takenIn history) ≡ times pfn (givenIn history) + bit (holds p pfn)
+  -- a give is refused with 11 exactly where the frame was not taken more often than given
+  pub give-refused : (pfn : ℕ)
+      → giveRefusal p pfn ≡ refuseUnless (ltb (times pfn (givenIn history)) (times pfn (takenIn history))) 11 0
 
 -- "From a new pool, all free, each call handed the last one's pool"; any sequence of calls, so at the new pool and after each call
 unfoldable pub Balance : Type 0

@@ -14,7 +14,7 @@ use Rattle.heap.specs.declared.Pool.{Pool}
 use Rattle.heap.specs.declared.PoolReply.{PoolReply}
 use Rattle.heap.specs.declared.Mapped.{Mapped}
 
--- a call that changes a pool: its other arguments, what it answered, and what it left in the runs that it was lent
+-- a call that may change a pool: its other arguments, what it answered, and what it left in the runs that it was lent
 pub data Event : Type 0 where
   Take : (reply : PoolReply) → Event
   Give : (pfn : ℕ) (reply : PoolReply) → Event
@@ -48,16 +48,16 @@ ifDone (Fault value) frames = []
 ifDone (Done value) frames = frames
 ifDone (Refused number) frames = []
 
--- the pfn that a take answered
-unfoldable pub answeredPfn : Outcome → ℕ
-answeredPfn (At address) = 0
-answeredPfn (Fault value) = 0
-answeredPfn (Done value) = value
-answeredPfn (Refused number) = 0
+-- the value of a call that was accepted: for a take its frame's pfn
+unfoldable pub doneValue : Outcome → List ℕ
+doneValue (At address) = []
+doneValue (Fault value) = []
+doneValue (Done value) = value ∷ []
+doneValue (Refused number) = []
 
 -- the frames that a call took and those that it gave, by their pfns: told by its arguments and its answer, and not by any pool
 unfoldable pub takenBy : Event → List ℕ
-takenBy (Take reply) = ifDone (reply .outcome) (answeredPfn (reply .outcome) ∷ [])
+takenBy (Take reply) = doneValue (reply .outcome)
 takenBy (Give pfn reply) = []
 takenBy (Map m index leaf answer buffer-after words-after) = ifDone (answer .reply .outcome) (answer .pfn ∷ [])
 

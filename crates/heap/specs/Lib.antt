@@ -5,6 +5,7 @@ pub mod Take
 pub mod Give
 pub mod Held
 pub mod Map
+pub mod OneFrame
 pub mod Histories
 pub mod Balance
 pub mod Mapping

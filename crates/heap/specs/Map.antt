@@ -1,10 +1,9 @@
 -- The call map: takes a frame, and stores a leaf with its pfn by the table store. Refusals 1, 2, 3, 6 and 10.
 use Prim.Native.Nat.{ℕ, _+_, _*_, _^_}
 use mathlib.Core.Path.{_≡_}
-use mathlib.Core.Bool.{true}
 use mathlib.Core.List.{List}
 use Rattle.runs.specs.Bits.{bits}
-use Rattle.registers.specs.Refusals.{refuseUnless, byRefusal}
+use Rattle.registers.specs.Refusals.{refuseUnless, refusedOr, byRefusal}
 use Rattle.registers.specs.Replies.{refusalOf, refused}
 use Rattle.registers.specs.declared.Registers.{Registers}
 use Rattle.slots.specs.Buffer.{Buffer}
@@ -19,7 +18,7 @@ use Rattle.heap.specs.declared.Mapped.{Mapped}
 -- number 1 for the pool, as for the registers; then the table store's own numbers, then 10
 unfoldable pub mapRefusal : Machine → Pool → (index : ℕ) → ℕ
 mapRefusal m p index =
-    refuseUnless (poolFits p) 1 (byRefusal (storeRefusal m index) (fullRefusal p) (storeRefusal m index))
+    refuseUnless (poolFits p) 1 (refusedOr (storeRefusal m index) (fullRefusal p))
 
 -- "a given leaf with present set and that frame's pfn": present in bit 31, valid, kernel, we and software in bits 30 to 19, pfn in 18 to 0
 unfoldable pub mappedWord : (leaf pfn : ℕ) → ℕ
@@ -48,10 +47,8 @@ wordsAfterMap m p index leaf = byRefusal (mapRefusal m p index) (wordsAfterStore
 
 -- the call is accepted, and the lowest free frame stands at a place
 pub record MayMap (m : Machine) (p : Pool) (place index : ℕ) : Type 0 where
-  pub pool-fits : poolFits p ≡ true
-  pub store-accepted : storeRefusal m index ≡ 0
+  pub accepted : mapRefusal m p index ≡ 0
   pub place-is : place ≡ lowestFree p
-  pub not-full : place ≡ p .size → ⊥
 
 -- what the call promises
 pub record MapGives (m : Machine) (p : Pool) (index leaf : ℕ) (answer : Mapped) (buffer-after : Buffer) (words-after : List ℕ)

@@ -20,7 +20,7 @@ pub record SameFrames (p q : Pool) : Type 0 where
   pub size-same : p .size ≡ q .size
   pub held-same : (place : ℕ) → place < p .size → heldAt (p .bits) place ≡ heldAt (q .bits) place
 
--- every call answers both alike
+-- every call answers both alike, and leaves pools with the same frames held again
 pub record AnsweredAlike (p q : Pool) : Type 0 where
   pub take-alike : (takeReply p) .outcome ≡ (takeReply q) .outcome
   pub give-alike : (pfn : ℕ) → (giveReply p pfn) .outcome ≡ (giveReply q pfn) .outcome
@@ -29,9 +29,12 @@ pub record AnsweredAlike (p q : Pool) : Type 0 where
   pub map-pfn-alike : (m : Machine) (index leaf : ℕ) → (mapAnswer m p index leaf) .pfn ≡ (mapAnswer m q index leaf) .pfn
   pub map-buffer-alike : (m : Machine) (index leaf : ℕ) → bufferAfterMap m p index leaf ≡ bufferAfterMap m q index leaf
   pub map-words-alike : (m : Machine) (index leaf : ℕ) → wordsAfterMap m p index leaf ≡ wordsAfterMap m q index leaf
+  pub take-leaves : SameFrames ((takeReply p) .pool) ((takeReply q) .pool)
+  pub give-leaves : (pfn : ℕ) → SameFrames ((giveReply p pfn) .pool) ((giveReply q pfn) .pool)
+  pub map-leaves : (m : Machine) (index leaf : ℕ) → SameFrames ((mapAnswer m p index leaf) .pool) ((mapAnswer m q index leaf) .pool)
 
 unfoldable pub PastIgnored : Type 0
-PastIgnored = (p q : Pool) → SameFrames p q → AnsweredAlike p q
+PastIgnored = (p q : Pool) → length (p .bits) ≡ 64 → length (q .bits) ≡ 64 → SameFrames p q → AnsweredAlike p q
 
 -- whatever the calls, each handed the last one's pool, no bit past the size changes
 unfoldable pub PastStays : Type 0

@@ -31,7 +31,7 @@ freeFrames p = count (freeAt (p .bits)) (p .size)
 unfoldable pub heldFrames : Pool → ℕ
 heldFrames p = count (heldAt (p .bits)) (p .size)
 
--- whether a pfn is that of a frame of the pool which is held; number 11 is "frame not held or outside the pool"
+-- whether a pfn is in the pool and its frame is held; number 11 is "frame not held or outside the pool"
 unfoldable pub holds : Pool → (pfn : ℕ) → Bool
 holds p pfn = leb (p .first) pfn && ltb pfn (p .first + p .size) && heldAt (p .bits) (pfn - p .first)
 
@@ -39,7 +39,8 @@ holds p pfn = leb (p .first) pfn && ltb pfn (p .first + p .size) && heldAt (p .b
 unfoldable pub poolWith : (held : Bool) (place : ℕ) → Pool → Pool
 poolWith held place p = record { first = p .first; size = p .size; bits = withHeld held place (p .bits) }
 
--- a call on a pool that succeeded, with its value and the pool after it; and a refusal, which "hands the pool back unchanged"
+-- a call on a pool that succeeded, with the pool after it and its value: for a take the frame's pfn, for a new pool and a give 0; and a
+-- refusal, which "hands the pool back unchanged"
 abbrev pub donePool : (value : ℕ) → Pool → PoolReply
 donePool value p = record { outcome = Done value; pool = p }
 

@@ -7,12 +7,12 @@ ghost use lib.ListN.{getD, set};
 ghost use Rattle.runs.specs.Counts.{count, lowest};
 ghost use Rattle.heap.specs.Bits.{freeAt, heldAt, withHeld};
 
-// The low bits of a number, so many of them.
-fn low_bits(n: u64, count: u32) -> u64
-    ensures { λ r. ⌜ r ≡ n % 2 ^ count ⌝ }
+// The lowest bits of a number, as many as the width says.
+fn low_bits(n: u64, width: u32) -> u64
+    ensures { λ r. ⌜ r ≡ n % 2 ^ width ⌝ }
 {
-    if count < 64 {
-        return n % (1u64 << count);
+    if width < 64 {
+        return n % (1u64 << width);
     }
     n
 }
@@ -25,7 +25,7 @@ fn word_at(bits: &[u64; 64], k: u32) -> u64
     bits[k as usize]
 }
 
-// The place of the lowest set bit of a number that is not 0.
+// The place of the lowest set bit of a number; 64 where none is set.
 fn lowest_set(n: u64) -> u32
     ensures { λ k. ⌜ k ≡ trailingZeros 64 n ⌝ }
 {
@@ -39,6 +39,7 @@ pub(crate) fn lowest_free(bits: &[u64; 64], size: u32) -> u32
 {
     let mut k: u32 = 0;
     while 64 * k < size {
+        // The free word: the complement within the size.
         let free = low_bits(!word_at(bits, k), size - 64 * k);
         if free != 0 {
             return 64 * k + lowest_set(free);
@@ -71,6 +72,7 @@ pub(crate) fn held_at(bits: &[u64; 64], place: u32) -> bool
     (word_at(bits, place / 64) >> (place % 64)) % 2 == 1
 }
 
+// Replaces one word of the bits.
 fn put_word(bits: &mut [u64; 64], k: u32, word: u64)
     requires { ⌜ k < 64 ⌝ }
     ensures { λ _. ⌜ now (bits .exit) ≡ set (now (bits .entry)) k word ⌝ }

@@ -37,7 +37,8 @@ fn holds(first: u32, size: u32, bits: &[u64; 64], pfn: u32) -> bool
     held_at(bits, place)
 }
 
-fn refused(number: u32, pool: Pool) -> PoolReply
+// A refusal hands the pool back unchanged.
+fn refused_pool(number: u32, pool: Pool) -> PoolReply
     ensures { λ s. ⌜ s ≡ refusedPool number pool ⌝ }
 {
     PoolReply {
@@ -62,7 +63,7 @@ pub fn new_pool(first: u32, size: u32) -> PoolReply
     ensures { λ s. ⌜ NewPoolGives first size s ⌝ }
 {
     if !frames_fit(first, size) {
-        return refused(1, clear_pool(0, 0));
+        return refused_pool(1, clear_pool(0, 0));
     }
     let pool = clear_pool(first, size);
     PoolReply {
@@ -76,11 +77,11 @@ pub fn take(mut pool: Pool) -> PoolReply
     ensures { λ s. ⌜ TakeGives pool s ⌝ }
 {
     if !frames_fit(pool.first, pool.size) {
-        return refused(1, pool);
+        return refused_pool(1, pool);
     }
     let place = lowest_free(&pool.bits, pool.size);
     if place == pool.size {
-        return refused(10, pool);
+        return refused_pool(10, pool);
     }
     flip(&mut pool.bits, place);
     let pfn = pool.first + place;
@@ -95,10 +96,10 @@ pub fn give(mut pool: Pool, pfn: u32) -> PoolReply
     ensures { λ s. ⌜ GiveGives pool pfn s ⌝ }
 {
     if !frames_fit(pool.first, pool.size) {
-        return refused(1, pool);
+        return refused_pool(1, pool);
     }
     if !holds(pool.first, pool.size, &pool.bits, pfn) {
-        return refused(11, pool);
+        return refused_pool(11, pool);
     }
     let place = pfn - pool.first;
     flip(&mut pool.bits, place);

@@ -18,6 +18,7 @@ fn mapped_word(leaf: u32, pfn: u32) -> u32
     2147483648 + (leaf >> 19) % 4096 * 524288 + pfn
 }
 
+// A refused map takes no frame.
 fn refused_map(r: Registers, number: u32, pool: Pool) -> Mapped
     ensures { λ a. ⌜ a ≡ refusedMap r number pool ⌝ }
 {
@@ -51,7 +52,7 @@ fn map_frame(
     Mapped { reply, pfn, pool }
 }
 
-// Takes the lowest free frame and stores, at a word of the page tables, a leaf with its pfn. The reply is the table store's.
+// Takes the lowest free frame and stores, at a word of the page tables, a leaf with its pfn. The outcome is Done with the slots emptied.
 pub fn map(
     r: Registers,
     buffer: &mut [u64],

@@ -11,6 +11,10 @@ refuseUnless test number later = cond test later number
 unfoldable pub byRefusal : {A : Type 0} (number : ℕ) (accepted refused : A) → A
 byRefusal number accepted refused = cond (eqb number 0) accepted refused
 
+-- a number that checks already gave, or what the later checks give where it is 0
+unfoldable pub refusedOr : (number later : ℕ) → ℕ
+refusedOr number later = byRefusal number later number
+
 -- number 4: a draw above 3
 unfoldable pub drawFits : (draw : ℕ) → Bool
 drawFits draw = leb draw 3

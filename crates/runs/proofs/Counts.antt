@@ -6,7 +6,7 @@ use mathlib.Core.Bool.{Bool, true, false, cond, not, _&&_}
 use native.Mathlib.Nat.{le-of-suc-le-suc, not-suc-le-zero, eq-or-lt-of-le, lt-suc-self, add-suc, add-zero, add-sub-of-le}
 use native.Mathlib.Omega.{arith}
 use lib.Dec.{ltb}
-use borrow.Author.Tests.{lt-ltb, le-ltb}
+use borrow.Author.Tests.{lt-ltb, le-ltb, not-true, not-false}
 use Rattle.runs.specs.Bits.{bit}
 use Rattle.runs.proofs.Bits.{bit-le}
 use Rattle.runs.proofs.Bools.{is-false, clash, both, and-both, or-either, or-left, or-right}
@@ -138,6 +138,21 @@ module _ (p : ℕ → Bool) where
       some : (p (lowest p n (cond (p n) n d)) ≡ true) × (lowest p n (cond (p n) n d) < n) → Goal (lowest p n (cond (p n) n d))
       some h = (h .0, omega (arith, h .1))
 
+  -- below the lowest none passes
+  pub below-lowest : (n d k : ℕ) → k < lowest p n d → k < n → p k ≡ false
+  unfolding lowest
+  below-lowest zero d k h l = absurd (not-suc-le-zero l)
+  below-lowest (suc n) d k h l =
+      ⊎-elim (λ (e : k ≡ n). subst (λ (j : ℕ). p j ≡ false) (sym e) (last (subst (λ (j : ℕ). j < lowest p n (cond (p n) n d)) e h)))
+      (λ (l′ : k < n). below-lowest n (cond (p n) n d) k h l′) (split l)
+    where
+      at-most : lowest p n n ≤ n
+      at-most = ⊎-elim (λ (all : None n). omega (arith, lowest-none n n all))
+          (λ (s : Some n). omega (arith, (lowest-true n n s) .1)) (none-or-some n)
+
+      last : n < lowest p n (cond (p n) n d) → p n ≡ false
+      last g = is-false (p n) (λ t. let q : n < lowest p n n = subst (λ (b : Bool). n < lowest p n (cond b n d)) t g in omega (arith, at-most))
+
   pub lowest-lt : (n d : ℕ) → d < n → lowest p n d < n
   lowest-lt n d l = ⊎-elim (λ (all : None n). subst (λ (x : ℕ). x < n) (sym (lowest-none n d all)) l)
       (λ (s : Some n). (lowest-true n d s) .1) (none-or-some n)
@@ -224,6 +239,19 @@ module _ (p : ℕ → Bool) where
       one-of : (b : Bool) → bit (not b) + bit b ≡ 1
       one-of true = refl
       one-of false = refl
+
+  -- not all pass exactly where fewer pass than there are
+  pub not-all : (n : ℕ) → not (all p n) ≡ ltb (count p n) n
+  not-all n =
+      ⊎-elim
+      (λ none.
+      let zero-left = count-none (λ k. not (p k)) n none in
+      ap not (all-from p n (λ k l. not-false (p k) (none k l))) ∙ sym (le-ltb (count p n) n (omega (arith, count-both n))))
+      (λ some.
+      let left = count-some (λ k. not (p k)) n (some .0) (some .1) (some .2) in
+      ap not (is-false (all p n) (λ h. clash (all-at p n (some .0) h (some .1)) (not-true (p (some .0)) (some .2))))
+      ∙ sym (lt-ltb (count p n) n (omega (arith, count-both n))))
+      (none-or-some (λ k. not (p k)) n)
 
   -- those that pass and are below a bound, counted up to a number past it
   pub count-below : (bound n : ℕ) → bound ≤ n → count (λ k. ltb k bound && p k) n ≡ count p bound

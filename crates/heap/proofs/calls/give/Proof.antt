@@ -13,20 +13,20 @@ use Rattle.heap.proofs.calls.give.Tie as tie
 frames-fit-requires : tie.Need-frames-fit-requires
 frames-fit-requires c κs = search needs
 
-refused-requires : tie.Need-refused-requires
-refused-requires c κs = search needs
+refused-pool-requires : tie.Need-refused-pool-requires
+refused-pool-requires c κs = search needs
 
 returns : tie.Need-returns
 unfolding giveRefusal
 returns c =
     let refusal = unfit _ _ (c .before .before .frames-fit .ensures) _ (c .before .if1 .taken) in
-    give-refused _ _ _ 1 refusal (λ z. omega arith) (c .refused .ensures)
+    give-refused _ _ _ 1 refusal (λ z. omega arith) (c .refused-pool .ensures)
 
 holds-requires : tie.Need-holds-requires
 holds-requires c κs = frames-now _ _ _ (c .before .before .before .frames-fit .ensures) (c .before .before .if1 .left) .at-most
 
-refused-requires-2 : tie.Need-refused-requires-2
-refused-requires-2 c κs = search needs
+refused-pool-requires-2 : tie.Need-refused-pool-requires-2
+refused-pool-requires-2 c κs = search needs
 
 returns-2 : tie.Need-returns-2
 unfolding giveRefusal
@@ -34,7 +34,7 @@ returns-2 c =
     let missing = refuse-here _ _ _ _ (c .before .before .holds .ensures) (c .before .if2 .taken) in
     let tested = c .before .before .before .before .before .if1 .left in
     let refusal = fit _ _ (c .before .before .before .before .before .before .frames-fit .ensures) 11 _ tested missing in
-    give-refused _ _ _ 11 refusal (λ z. omega arith) (c .refused2 .ensures)
+    give-refused _ _ _ 11 refusal (λ z. omega arith) (c .refused-pool2 .ensures)
 
 sub-place : tie.Need-sub-place
 sub-place c = held-pfn _ _ (sym (c .before .holds .ensures) ∙ not-false _ (c .if2 .left)) .from-first
@@ -61,10 +61,10 @@ give-spec =
     tie.close
     (tie.spec
     frames-fit-requires
-    refused-requires
+    refused-pool-requires
     returns
     holds-requires
-    refused-requires-2
+    refused-pool-requires-2
     returns-2
     sub-place
     flip-requires

@@ -11,13 +11,13 @@ frames-fit-requires c κs = search needs
 clear-pool-requires : tie.Need-clear-pool-requires
 clear-pool-requires c κs = search needs
 
-refused-requires : tie.Need-refused-requires
-refused-requires c κs = search needs
+refused-pool-requires : tie.Need-refused-pool-requires
+refused-pool-requires c κs = search needs
 
 returns : tie.Need-returns
 returns c =
     new-refused _ _ _ (c .before .before .before .frames-fit .ensures) _ (c .before .before .if1 .taken)
-    (c .refused .ensures ∙ ap (refusedPool 1) (c .before .clear-pool .ensures))
+    (c .refused-pool .ensures ∙ ap (refusedPool 1) (c .before .clear-pool .ensures))
 
 clear-pool-requires-2 : tie.Need-clear-pool-requires-2
 clear-pool-requires-2 c κs = search needs
@@ -32,7 +32,7 @@ new-pool-spec =
     (tie.spec
     frames-fit-requires
     clear-pool-requires
-    refused-requires
+    refused-pool-requires
     returns
     clear-pool-requires-2
     returns-2)

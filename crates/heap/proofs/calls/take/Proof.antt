@@ -12,22 +12,22 @@ use Rattle.heap.proofs.calls.take.Tie as tie
 frames-fit-requires : tie.Need-frames-fit-requires
 frames-fit-requires c κs = search needs
 
-refused-requires : tie.Need-refused-requires
-refused-requires c κs = search needs
+refused-pool-requires : tie.Need-refused-pool-requires
+refused-pool-requires c κs = search needs
 
 returns : tie.Need-returns
 unfolding takeRefusal
 returns c =
     let refusal = unfit _ _ (c .before .before .frames-fit .ensures) _ (c .before .if1 .taken) in
-    take-refused _ _ 1 refusal (λ z. omega arith) (c .refused .ensures)
+    take-refused _ _ 1 refusal (λ z. omega arith) (c .refused-pool .ensures)
 
 lowest-free-requires : tie.Need-lowest-free-requires
 lowest-free-requires c κs =
     let fits = frames-now _ _ _ (c .before .before .before .frames-fit .ensures) (c .before .before .if1 .left) in
     fits .at-most
 
-refused-requires-2 : tie.Need-refused-requires-2
-refused-requires-2 c κs = search needs
+refused-pool-requires-2 : tie.Need-refused-pool-requires-2
+refused-pool-requires-2 c κs = search needs
 
 returns-2 : tie.Need-returns-2
 unfolding takeRefusal lowestFree
@@ -35,7 +35,7 @@ returns-2 c =
     let full = full-refusal _ (sym (c .before .before .lowest-free .ensures) ∙ c .before .if2 .taken) in
     let tested = c .before .before .before .before .before .if1 .left in
     let refusal = fit _ _ (c .before .before .before .before .before .before .frames-fit .ensures) 10 _ tested full in
-    take-refused _ _ 10 refusal (λ z. omega arith) (c .refused2 .ensures)
+    take-refused _ _ 10 refusal (λ z. omega arith) (c .refused-pool2 .ensures)
 
 flip-requires : tie.Need-flip-requires
 unfolding lowestFree
@@ -68,10 +68,10 @@ take-spec =
     tie.close
     (tie.spec
     frames-fit-requires
-    refused-requires
+    refused-pool-requires
     returns
     lowest-free-requires
-    refused-requires-2
+    refused-pool-requires-2
     returns-2
     flip-requires
     add-pfn

@@ -1,7 +1,6 @@
 use native.Mathlib.Omega.{arith}
 use Rattle.store.proofs.StoreLaws.{store-accepted}
-use Rattle.heap.proofs.CallLaws.{place-room}
-use Rattle.heap.proofs.MapLaws.{map-done}
+use Rattle.heap.proofs.MapLaws.{may-store, may-room, map-done}
 use borrow.Author.Needs.{needs}
 use Rattle.heap.proofs.maps.map_frame.Statement.{statement}
 use Rattle.heap.proofs.maps.map_frame.Tie as tie
@@ -9,16 +8,16 @@ use Rattle.heap.proofs.maps.map_frame.Tie as tie
 add-pfn : tie.Need-add-pfn
 add-pfn c =
     let may = c .before .before .pre in
-    omega (arith, place-room _ (may .pool-fits) _ (may .place-is) (may .not-full))
+    omega (arith, may-room _ _ _ _ may)
 
 mapped-word-requires : tie.Need-mapped-word-requires
 mapped-word-requires c κs =
     let may = c .before .before .before .before .pre in
-    omega (arith, place-room _ (may .pool-fits) _ (may .place-is) (may .not-full))
+    omega (arith, may-room _ _ _ _ may)
 
 rewrite-requires : tie.Need-rewrite-requires
 rewrite-requires c κs =
-    let accepted = store-accepted _ _ (c .before .before .before .before .before .pre .store-accepted) in
+    let accepted = store-accepted _ _ (may-store _ _ _ _ (c .before .before .before .before .before .pre)) in
     (accepted .0, accepted .1, omega (arith, accepted .1, accepted .2))
 
 done-requires : tie.Need-done-requires
@@ -27,7 +26,7 @@ done-requires c κs = search needs
 flip-requires : tie.Need-flip-requires
 flip-requires c κs =
     let may = c .before .before .before .before .before .before .before .before .before .before .before .before .pre in
-    omega (arith, place-room _ (may .pool-fits) _ (may .place-is) (may .not-full))
+    omega (arith, may-room _ _ _ _ may)
 
 same-length : tie.Need-same-length
 same-length c = search needs
