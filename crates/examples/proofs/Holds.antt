@@ -1,11 +1,12 @@
 -- Every example holds, computed from the definitions. Assumes nothing.
 use mathlib.Core.Path.{_≡_, refl}
+use Rattle.runs.specs.Bits.{withFlag}
 use Rattle.runs.specs.Counts.{all, count, lowest}
 use Rattle.entry.specs.Address.{vpnOf, offsetOf, location, vpn15Of, slotOf, setOf, vpnAt}
 use Rattle.entry.specs.Entry.{unpack, join, lowBits, pack, sameLow, sameEntry}
 use Rattle.entry.specs.Empty.{emptyFields, emptyEntry}
 use Rattle.registers.specs.Fields.{toWords, fromWords, field, put, widths, fitsAt, registersFit, zeroRegisters}
-use Rattle.registers.specs.Refusals.{refuseUnless, byRefusal, drawFits}
+use Rattle.registers.specs.Refusals.{refuseUnless, refusedOr, byRefusal, drawFits}
 use Rattle.page_table.specs.Words.{present, reserved, number, leafValid, leafKernel, leafWe, leafPfn}
 use Rattle.page_table.specs.Stretches.{lengthFits, tablesFit, stretchSize, indexIn, inside, broken}
 use Rattle.page_table.specs.Walk.{leafAt, stopAt, indexBelow, descend, walkTree, globalFirst, walkPage}
@@ -23,6 +24,15 @@ use Rattle.store.specs.Leaf.{leafEntry}
 use Rattle.store.specs.Sweep.{isEmpty, agreesWithLeaf, agreesWithTables, kept, keptAt, settled, sweptSlot, sweptFirst, swept, emptied}
 use Rattle.store.specs.Rewrite.{written}
 use Rattle.store.specs.TableStore.{indexFits, storeRefusal, storedWords, storeReply, bufferAfterStore, wordsAfterStore}
+use Rattle.heap.specs.Bits.{heldAt, freeAt, withHeld}
+use Rattle.heap.specs.Pools.{framesFit, poolFits, isFull, lowestFree, heldFrames, holds, poolWith}
+use Rattle.heap.specs.NewPool.{newRefusal, clearPool, newReply}
+use Rattle.heap.specs.Take.{fullRefusal, takeRefusal, takenPfn, takenPool, takeReply}
+use Rattle.heap.specs.Give.{giveRefusal, givenPool, giveReply}
+use Rattle.heap.specs.Held.{heldRefusal, heldOutcome}
+use Rattle.heap.specs.Map.{mapRefusal, mappedWord, mapPut, mapAnswer, bufferAfterMap, wordsAfterMap}
+use Rattle.heap.specs.Histories.{poolLeft, lastPool, ifDone, doneValue, takenBy, givenBy, takenIn, givenIn, historyOf}
+use Rattle.heap.specs.Histories.{eventOf as poolEvent}
 use Rattle.mmu.specs.RawAccess.{rawRefusal, rawReply}
 use Rattle.mmu.specs.ServedAccess.{mayBeServed, servedRefusal, outcomeOf, triedReply, missed, loadedAt, registersLoaded, bufferLoaded}
 use Rattle.mmu.specs.ServedAccess.{afterMiss, bufferAfterMiss, firstTry, walkFor, accessReply, accessBuffer, servedReply, servedBuffer}
@@ -61,6 +71,7 @@ use Rattle.examples.specs.Reads.{distinct, upperBits, afterMissing, refi
 use Rattle.examples.specs.Walks.{tables, good, shared, globalBroken, walks}
 use Rattle.examples.specs.Served.{machine, agedEntry, aged, reading, served}
 use Rattle.examples.specs.Stores.{entryOf, agreeing, sweeps, numbers, stores, guardedSettings}
+use Rattle.examples.specs.Pools.{poolOf, three, poolCalls, pageLoaded, mapped, maps, asked, history, histories}
 use Rattle.examples.specs.Ends.{last, ends}
 use Rattle.examples.specs.Sequences.{lent, fresh, worked, workedLines, strays, strayLines, outcomes}
 use Rattle.examples.specs.Sequences.{outcomeLines, sequences}
@@ -90,5 +101,8 @@ unfolding all count lowest vpnOf offsetOf location vpn15Of slotOf setOf unpack j
     commandsFrom recordCount commandsOf stepReply bufferAfterStep wordsAfterStep machineAfterStep ascii digit digits lengthWithin
     decimalLength decimal hex wordOf headOf lineOf lineValue traceLines startMachine traceText workedInput workedText traces signed
     totalText totalsText rowHead rowOf refusedText unreadText totalAt booked within bookedWithin bookedAll gain hasColumn faultColumn
-    faultGains accessGains storeGains reports examples
+    faultGains accessGains storeGains reports withFlag refusedOr heldAt freeAt withHeld framesFit poolFits isFull lowestFree heldFrames
+    holds poolWith newRefusal clearPool newReply fullRefusal takeRefusal takenPfn takenPool takeReply giveRefusal givenPool giveReply
+    heldRefusal heldOutcome mapRefusal mappedWord mapPut mapAnswer bufferAfterMap wordsAfterMap poolLeft lastPool ifDone doneValue takenBy
+    givenBy takenIn givenIn historyOf poolEvent poolOf three poolCalls pageLoaded mapped maps asked history histories examples
 all-hold = refl

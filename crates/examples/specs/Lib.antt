@@ -12,4 +12,5 @@ pub mod Accesses
 pub mod Conditions
 pub mod Calls
 pub mod Reads
+pub mod Pools
 pub mod Examples
