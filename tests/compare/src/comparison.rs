@@ -7,7 +7,64 @@ use crate::outcome::{self, Runs};
 use crate::protocol::{Answer, Request};
 use crate::put::Put;
 use crate::witness::Witness;
+use std::cell::RefCell;
+use std::marker::PhantomData;
 use std::rc::Rc;
+
+/// So many calls of one process have answers under way at the most.
+const CASES_FOR_A_PROCESS: usize = 10_000;
+
+/// Points of an answer, each with whether it holds.
+pub type Points = Vec<(&'static str, bool)>;
+
+/// Which outcomes a comparison counts.
+pub trait Outcomes {
+    /// All of them: one that never happens fails.
+    fn all() -> Vec<String>;
+
+    /// Those of one request.
+    fn of(request: &Request, runs: Runs, expected: &Answer, judges: &Judges) -> Vec<String>;
+}
+
+/// The outcomes of the unit's calls.
+pub struct Calls;
+
+impl Outcomes for Calls {
+    fn all() -> Vec<String> {
+        outcome::all()
+    }
+
+    fn of(request: &Request, runs: Runs, expected: &Answer, judges: &Judges) -> Vec<String> {
+        match judges.witness {
+            None => outcome::of(request, runs, expected),
+            Some(_) => outcome::in_sequence(request, runs, expected),
+        }
+    }
+}
+
+/// What goes on by the answers of the program under test.
+pub trait Hears {
+    /// Each point that can be judged by this answer.
+    fn hear(&mut self, request: &Request, got: &Answer) -> Points;
+}
+
+/// What a call in a sequence or a dump is judged by besides the second program's answer.
+#[derive(Default)]
+pub struct Judges {
+    pub witness: Option<Witness>,
+    pub history: Option<Rc<RefCell<dyn Hears>>>,
+    /// Outcomes that the case is known for.
+    pub outcomes: Vec<String>,
+}
+
+impl From<Option<Witness>> for Judges {
+    fn from(witness: Option<Witness>) -> Judges {
+        Judges {
+            witness,
+            ..Judges::default()
+        }
+    }
+}
 
 struct Asked {
     /// Without its table run.
@@ -15,7 +72,7 @@ struct Asked {
     found: Found,
     expected: Answer,
     outcomes: Vec<String>,
-    witness: Option<Witness>,
+    judges: Judges,
 }
 
 impl Question for Asked {
@@ -29,8 +86,8 @@ impl Question for Asked {
         for outcome in &self.outcomes {
             report.add(outcome, agreed);
         }
-        if let (Some(witness), Some(got)) = (&self.witness, &got) {
-            self.hear(witness, got, report);
+        if let Some(got) = &got {
+            self.judge_points(got, report);
         }
         if agreed || !report.may_print() {
             return;
@@ -44,9 +101,16 @@ impl Question for Asked {
 }
 
 impl Asked {
-    /// What the witness of a sequence says of an answer, each of its points counted by itself.
-    fn hear(&self, witness: &Witness, got: &Answer, report: &mut Report) {
-        for (point, holds) in witness.points(&self.request, got) {
+    /// What the judges say of an answer, each of their points counted by itself.
+    fn judge_points(&self, got: &Answer, report: &mut Report) {
+        let mut points = Points::new();
+        if let Some(witness) = &self.judges.witness {
+            points.extend(witness.points(&self.request, got));
+        }
+        if let Some(history) = &self.judges.history {
+            points.extend(history.borrow_mut().hear(&self.request, got));
+        }
+        for (point, holds) in points {
             report.add(point, holds);
             if !holds && report.may_print() {
                 println!("at case {}: {:X?}", report.cases, self.request.call);
@@ -56,16 +120,20 @@ impl Asked {
     }
 }
 
-pub struct Comparison {
+pub struct Comparison<O = Calls> {
     exchange: Exchange<Asked>,
     tables: Rc<Vec<u32>>,
+    in_process: usize,
+    counted: PhantomData<O>,
 }
 
-impl Comparison {
-    pub fn start(path: &str) -> Result<Comparison, String> {
+impl<O: Outcomes> Comparison<O> {
+    pub fn start(path: &str) -> Result<Comparison<O>, String> {
         Ok(Comparison {
-            exchange: Exchange::start(path, outcome::all())?,
+            exchange: Exchange::start(path, O::all())?,
             tables: Rc::default(),
+            in_process: 0,
+            counted: PhantomData,
         })
     }
 
@@ -78,9 +146,10 @@ impl Comparison {
         self.exchange.count()
     }
 
-    /// One request more, before a witness where it belongs to a sequence or a dump. The reference's
+    /// One request more, before judges where it belongs to a sequence or a dump. The reference's
     /// answer comes back.
-    pub fn put_before(&mut self, witness: Option<Witness>, mut request: Request) -> Answer {
+    pub fn put_before(&mut self, judges: impl Into<Judges>, mut request: Request) -> Answer {
+        let mut judges = judges.into();
         let bytes = request.to_bytes();
         if !request.tables.is_empty() {
             self.tables = Rc::new(std::mem::take(&mut request.tables));
@@ -91,25 +160,33 @@ impl Comparison {
             before: &before,
             after: &self.tables,
         };
-        let outcomes = match witness {
-            None => outcome::of(&request, runs, &expected),
-            Some(_) => outcome::in_sequence(&request, runs, &expected),
-        };
+        let mut outcomes = std::mem::take(&mut judges.outcomes);
+        outcomes.extend(O::of(&request, runs, &expected, &judges));
         let asked = Asked {
             found: Found::by(&request, &before),
             request,
             expected: expected.clone(),
             outcomes,
-            witness,
+            judges,
         };
         self.exchange.ask(bytes, asked);
+        self.in_process += 1;
         expected
+    }
+
+    /// Between cases that need no earlier table run: goes on with a fresh process where this one
+    /// has had its share.
+    pub fn may_restart(&mut self) {
+        if self.in_process >= CASES_FOR_A_PROCESS {
+            self.restart();
+        }
     }
 
     /// Ends this process and starts a fresh one, which has no table run.
     pub fn restart(&mut self) {
         self.exchange.restart();
         self.tables = Rc::default();
+        self.in_process = 0;
     }
 
     /// Prints the counts; true where every outcome passed.
@@ -118,7 +195,7 @@ impl Comparison {
     }
 }
 
-impl Put for Comparison {
+impl<O: Outcomes> Put for Comparison<O> {
     fn put(&mut self, request: Request) {
         self.put_before(None, request);
     }

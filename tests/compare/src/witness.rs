@@ -1,6 +1,7 @@
 //! What the reader and the account say of a call in a sequence, or a student of a step in a dump,
 //! to be held against the answer.
 
+use crate::comparison::Points;
 use crate::expected::{AT, DONE, FAULT, REFUSED};
 use crate::protocol::{Answer, Request};
 use crate::read_back::Step;
@@ -93,7 +94,7 @@ impl Witness {
     }
 
     /// Each point that the witness can judge, and whether it holds.
-    pub fn points(&self, request: &Request, got: &Answer) -> Vec<(&'static str, bool)> {
+    pub fn points(&self, request: &Request, got: &Answer) -> Points {
         let mut points = self.told.points(request, got);
         if let Some(left) = &self.left {
             points.extend(left.points(got));
@@ -103,7 +104,7 @@ impl Witness {
 }
 
 impl Told {
-    fn points(&self, request: &Request, got: &Answer) -> Vec<(&'static str, bool)> {
+    fn points(&self, request: &Request, got: &Answer) -> Points {
         let [word, value, loads, _] = got.words;
         match self {
             Told::Refused(number) => {

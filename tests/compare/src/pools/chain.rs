@@ -1,8 +1,9 @@
 //! Calls from a new pool on, each handed the last one's pool, and the pool's history.
 
-use super::comparison::{Comparison, Judges};
+use super::comparison::Comparison;
 use super::history::History;
 use super::shapes;
+use crate::comparison::{Hears, Judges};
 use crate::protocol::{Answer, PoolCall, Request};
 use crate::random::Random;
 use reference::heap::{Pool, BIT_NUMBERS};
@@ -61,7 +62,7 @@ impl Chain {
     /// A request that is handed the last one's pool.
     pub fn put(&mut self, comparison: &mut Comparison, judges: Judges, request: Request) -> Answer {
         let judges = Judges {
-            history: Some(Rc::clone(&self.theirs)),
+            history: Some(self.theirs.clone()),
             ..judges
         };
         let answer = comparison.put_before(judges, request.clone());

@@ -1,160 +1,21 @@
 //! Puts every call on a pool, and the unit's calls between them, to both programs.
 
-use super::history::History;
 use super::outcome;
-use crate::difference::{self, Found};
-use crate::exchange::{Exchange, Question, Report};
-use crate::expected;
+use crate::comparison::{self, Judges, Outcomes};
 use crate::outcome::Runs;
 use crate::protocol::{Answer, Request};
-use crate::put::Put;
-use crate::witness::Witness;
-use std::cell::RefCell;
-use std::rc::Rc;
 
-/// So many calls of one process have answers under way at the most.
-const CASES_FOR_A_PROCESS: usize = 10_000;
+/// The outcomes of the calls on pools.
+pub struct Pools;
 
-/// What a call in a sequence is judged by besides the second program's answer.
-#[derive(Default)]
-pub struct Judges {
-    pub witness: Option<Witness>,
-    /// Goes on by the answers of the program under test.
-    pub history: Option<Rc<RefCell<History>>>,
-    pub outcomes: Vec<String>,
-}
-
-struct Asked {
-    /// Without its table run.
-    request: Request,
-    found: Found,
-    expected: Answer,
-    judges: Judges,
-}
-
-impl Question for Asked {
-    fn answered_in(&self) -> usize {
-        Answer::byte_length(&self.request, self.expected.tables.len())
+impl Outcomes for Pools {
+    fn all() -> Vec<String> {
+        outcome::all()
     }
 
-    fn judge(&self, answer: Option<&[u8]>, report: &mut Report) {
-        let got = answer.map(|bytes| Answer::from_bytes(bytes, &self.request));
-        let agreed = got.as_ref() == Some(&self.expected);
-        for outcome in &self.judges.outcomes {
-            report.add(outcome, agreed);
-        }
-        if let Some(got) = &got {
-            self.judge_points(got, report);
-        }
-        if agreed || !report.may_print() {
-            return;
-        }
-        let (case, request) = (report.cases, &self.request);
-        match got {
-            Some(got) => difference::print(case, request, &self.found, &self.expected, &got),
-            None => println!("no answer at case {case}: {:X?}", request.call),
-        }
+    fn of(request: &Request, runs: Runs, expected: &Answer, _: &Judges) -> Vec<String> {
+        outcome::of(request, runs, expected)
     }
 }
 
-impl Asked {
-    /// What the witness and the history say of an answer, each of their points counted by itself.
-    fn judge_points(&self, got: &Answer, report: &mut Report) {
-        let mut points = Vec::new();
-        if let Some(witness) = &self.judges.witness {
-            points.extend(witness.points(&self.request, got));
-        }
-        if let Some(history) = &self.judges.history {
-            points.extend(history.borrow_mut().hear(&self.request, got));
-        }
-        for (point, holds) in points {
-            report.add(point, holds);
-            if !holds && report.may_print() {
-                println!("at case {}: {:X?}", report.cases, self.request.call);
-                println!("  does not hold: {point}");
-            }
-        }
-    }
-}
-
-pub struct Comparison {
-    exchange: Exchange<Asked>,
-    tables: Rc<Vec<u32>>,
-    in_process: usize,
-}
-
-impl Comparison {
-    pub fn start(path: &str) -> Result<Comparison, String> {
-        Ok(Comparison {
-            exchange: Exchange::start(path, outcome::all())?,
-            tables: Rc::default(),
-            in_process: 0,
-        })
-    }
-
-    pub fn wants_more(&self, total: usize) -> bool {
-        self.exchange.wants_more(total)
-    }
-
-    /// How many have been put so far.
-    pub fn count(&self) -> usize {
-        self.exchange.count()
-    }
-
-    /// One request more, before these judges. The reference's answer comes back.
-    pub fn put_before(&mut self, mut judges: Judges, mut request: Request) -> Answer {
-        let bytes = request.to_bytes();
-        if !request.tables.is_empty() {
-            self.tables = Rc::new(std::mem::take(&mut request.tables));
-        }
-        let before = Rc::clone(&self.tables);
-        let expected = expected::answer(&request, &mut self.tables);
-        let runs = Runs {
-            before: &before,
-            after: &self.tables,
-        };
-        judges
-            .outcomes
-            .extend(outcome::of(&request, runs, &expected));
-        let asked = Asked {
-            found: Found::by(&request, &before),
-            request,
-            expected: expected.clone(),
-            judges,
-        };
-        self.exchange.ask(bytes, asked);
-        self.in_process += 1;
-        expected
-    }
-
-    /// Between cases that need no earlier table run: goes on with a fresh process where this one
-    /// has had its share.
-    pub fn may_restart(&mut self) {
-        if self.in_process >= CASES_FOR_A_PROCESS {
-            self.restart();
-        }
-    }
-
-    /// Ends this process and starts a fresh one, which has no table run.
-    pub fn restart(&mut self) {
-        self.exchange.restart();
-        self.tables = Rc::default();
-        self.in_process = 0;
-    }
-
-    /// Prints the counts; true where every outcome passed.
-    pub fn finish(self) -> bool {
-        self.exchange.finish()
-    }
-}
-
-impl Put for Comparison {
-    fn put(&mut self, request: Request) {
-        self.put_before(Judges::default(), request);
-    }
-
-    /// The table run that the program keeps.
-    fn tables(&self) -> &[u32] {
-        &self.tables
-    }
-}
+pub type Comparison = comparison::Comparison<Pools>;

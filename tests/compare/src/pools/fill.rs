@@ -1,8 +1,9 @@
 //! Pools that are filled to the last frame and emptied again, from a new pool on.
 
 use super::chain::Chain;
-use super::comparison::{Comparison, Judges};
+use super::comparison::Comparison;
 use crate::cases::state;
+use crate::comparison::Judges;
 use crate::protocol::{PoolCall, Request};
 use crate::random::Random;
 use reference::heap::PFNS;

@@ -4,6 +4,7 @@
 //! It is begun with a new pool and never looks at a bit to learn which frame is live; the bits are
 //! held against it.
 
+use crate::comparison::{Hears, Points};
 use crate::expected::{DONE, REFUSED};
 use crate::protocol::{Answer, Call, PoolCall, Request};
 use reference::heap::{Pool, BIT_NUMBERS, MOST_FRAMES};
@@ -30,8 +31,6 @@ pub fn all() -> Vec<String> {
     .map(String::from)
     .to_vec()
 }
-
-type Points = Vec<(&'static str, bool)>;
 
 #[derive(Clone)]
 pub struct History {
@@ -75,25 +74,6 @@ impl History {
         (self.first..)
             .zip(&self.live)
             .find_map(|(pfn, live)| (!live).then_some(pfn))
-    }
-
-    /// Goes on by an answer; each point that can be judged by it, and whether it holds.
-    pub fn hear(&mut self, request: &Request, got: &Answer) -> Points {
-        let (Call::OnPool(call), Some(pool)) = (request.call, &got.pool) else {
-            return Vec::new();
-        };
-        let mut points = match call {
-            PoolCall::New { .. } => return vec![(NEW, self.is_new(got, pool))],
-            PoolCall::Take => self.hear_take(got),
-            PoolCall::Give { pfn } => self.hear_give(pfn, got),
-            PoolCall::Held => self.hear_held(got),
-            PoolCall::Map { .. } => self.hear_map(got),
-        };
-        points.extend(self.left(pool));
-        if got.words[0] == REFUSED {
-            points.push((UNCHANGED, got.pool == request.pool));
-        }
-        points
     }
 
     fn is_new(&self, got: &Answer, pool: &Pool) -> bool {
@@ -192,6 +172,26 @@ impl History {
             ),
             (BALANCE, free_and_held == Some(size as usize)),
         ]
+    }
+}
+
+impl Hears for History {
+    fn hear(&mut self, request: &Request, got: &Answer) -> Points {
+        let (Call::OnPool(call), Some(pool)) = (request.call, &got.pool) else {
+            return Vec::new();
+        };
+        let mut points = match call {
+            PoolCall::New { .. } => return vec![(NEW, self.is_new(got, pool))],
+            PoolCall::Take => self.hear_take(got),
+            PoolCall::Give { pfn } => self.hear_give(pfn, got),
+            PoolCall::Held => self.hear_held(got),
+            PoolCall::Map { .. } => self.hear_map(got),
+        };
+        points.extend(self.left(pool));
+        if got.words[0] == REFUSED {
+            points.push((UNCHANGED, got.pool == request.pool));
+        }
+        points
     }
 }
 

@@ -211,23 +211,37 @@ fn all_pools(comparison: &mut Comparison, random: &mut Random) {
     ask_for_tables(comparison);
 }
 
+/// A map of a leaf at a word of these tables, or of those that the program keeps where they are
+/// empty.
+fn map_over(
+    comparison: &mut Comparison,
+    random: &mut Random,
+    tables: Vec<u32>,
+    (index, value): (u32, u32),
+) {
+    let buffer = state::buffer(random, SLOTS);
+    let store = Call::Store { index, value };
+    let request = Request {
+        tables,
+        ..Request::without_run(store, state::registers(random), buffer)
+    };
+    let pool = with_a_free_frame(random);
+    comparison.put(map_of(request, pool));
+    ask_for_tables(comparison);
+}
+
 /// Each of a leaf's 32 bits set alone and clear alone, the run asked for after each.
 fn leaf_bits(comparison: &mut Comparison, random: &mut Random) {
     let mut tables = vec![0; 1024];
     let leaves = (0..32).flat_map(|bit| [1 << bit, !(1 << bit)]);
     for leaf in leaves.chain([0, u32::MAX, 0x0FF8_0000, 0xF007_FFFF]) {
-        let store = Call::Store {
-            index: random.below(1024) as u32,
-            value: leaf,
-        };
-        let buffer = state::buffer(random, SLOTS);
-        let request = Request {
-            tables: std::mem::take(&mut tables),
-            ..Request::without_run(store, state::registers(random), buffer)
-        };
-        let pool = with_a_free_frame(random);
-        comparison.put(map_of(request, pool));
-        ask_for_tables(comparison);
+        let index = random.below(1024) as u32;
+        map_over(
+            comparison,
+            random,
+            std::mem::take(&mut tables),
+            (index, leaf),
+        );
     }
 }
 
@@ -237,16 +251,13 @@ fn ends_of_runs(comparison: &mut Comparison, random: &mut Random) {
         let mut tables = vec![0; length];
         let length = length as u32;
         for index in [0, 63, length - 1, length, length + 1, u32::MAX] {
-            let value = random.bits(32);
-            let buffer = state::buffer(random, SLOTS);
-            let store = Call::Store { index, value };
-            let request = Request {
-                tables: std::mem::take(&mut tables),
-                ..Request::without_run(store, state::registers(random), buffer)
-            };
-            let pool = with_a_free_frame(random);
-            comparison.put(map_of(request, pool));
-            ask_for_tables(comparison);
+            let leaf = random.bits(32);
+            map_over(
+                comparison,
+                random,
+                std::mem::take(&mut tables),
+                (index, leaf),
+            );
         }
     }
 }

@@ -2,13 +2,14 @@
 //! each handed what the last one left.
 
 use super::chain::Chain;
-use super::comparison::{Comparison, Judges};
+use super::comparison::Comparison;
 use super::shapes;
 use crate::cases::forest::PRESENT;
 use crate::cases::steps::Steps;
 use crate::cases::witnesses::Witnesses;
 use crate::cases::world::World;
 use crate::cases::{spoil, state};
+use crate::comparison::Judges;
 use crate::expected::DONE;
 use crate::protocol::{Call, PoolCall, Request};
 use crate::random::Random;
