@@ -45,14 +45,19 @@ cause-fits r a slot value h l v =
     (lt-ltb (vpnOf (a .address) * 64 + r .context) 33554432 (omega (arith, vpn-lt (a .address), context-lt r h))))
     (lt-ltb (value * 2 + bit (a .write)) 32 (omega (arith, bit-le (a .write))))
 
-pub value-lt : (r : Registers) (a : Access) (f : Entry) → hitValue r a f < 16
-unfolding hitValue exceptionValue
-value-lt r a f = omega (
+-- the exceptions of a hit, added up
+pub exception-lt : (ctrl : ℕ) (a : Access) (valid kernel we : Bool) → exceptionValue ctrl a valid kernel we < 8
+unfolding exceptionValue
+exception-lt ctrl a valid kernel we = omega (
   arith,
-  bit-le (writeError (r .ctrl) a (f .we)),
-  bit-le (accessViolation (r .ctrl) a (f .kernel)),
-  bit-le (invalidPage (r .ctrl) (f .valid)),
+  bit-le (writeError ctrl a we),
+  bit-le (accessViolation ctrl a kernel),
+  bit-le (invalidPage ctrl valid),
 )
+
+pub value-lt : (r : Registers) (a : Access) (f : Entry) → hitValue r a f < 8
+unfolding hitValue
+value-lt r a f = exception-lt (r .ctrl) a (f .valid) (f .kernel) (f .we)
 
 -- the registers that an answer leaves fit
 abbrev Leaves : Translation → Type 0
@@ -74,7 +79,7 @@ module _ (r : Registers) (a : Access) (h : registersFit r ≡ true) where
   hit-leaves : (slot : ℕ) (f : Entry) → slot < 64 → Leaves (onHit r a slot f)
   unfolding onHit
   hit-leaves slot f l =
-      either (eqb (hitValue r a f) 0) _ _ (none-leaves _) (exception-leaves slot (hitValue r a f) _ l (value-lt r a f))
+      either (eqb (hitValue r a f) 0) _ _ (none-leaves _) (exception-leaves slot (hitValue r a f) _ l (omega (arith, value-lt r a f)))
 
   count-leaves : (hits set : ℕ) (f : Entry) → a .draw < 4 → set < 4 → Leaves (byHitCount hits r a set f)
   unfolding byHitCount

@@ -1,5 +1,5 @@
--- The value that a raw access answers has four bits. Assumes nothing.
-use Prim.Native.Nat.{ℕ, zero, suc, _<_}
+-- The value that a raw access answers is at most 8. Assumes nothing.
+use Prim.Native.Nat.{ℕ, zero, suc, _≤_}
 use mathlib.Core.Bool.{Bool, true, false, cond, _||_}
 use native.Mathlib.Omega.{arith}
 use lib.Dec.{eqb}
@@ -14,7 +14,7 @@ use Rattle.access.specs.declared.Translation.{Translation}
 use Rattle.access.proofs.Keeping.{value-lt}
 
 abbrev Small : Translation → Type 0
-Small t = t .value < 16
+Small t = t .value ≤ 8
 
 either : (t : Bool) (x y : Translation) → Small x → Small y → Small (cond t x y)
 either true x y p q = p
@@ -25,7 +25,7 @@ module _ (r : Registers) (a : Access) where
   unfolding noException
   none-small address = omega arith
 
-  exception-small : (slot value : ℕ) (tested : Physical) → value < 16 → Small (exceptionAnswer r a slot value tested)
+  exception-small : (slot value : ℕ) (tested : Physical) → value ≤ 8 → Small (exceptionAnswer r a slot value tested)
   unfolding exceptionAnswer
   exception-small slot value tested l = l
 
@@ -33,11 +33,11 @@ module _ (r : Registers) (a : Access) where
   unfolding byHitCount onHit
   count-small zero set f = exception-small _ 8 _ (omega arith)
   count-small (suc zero) set f =
-      either (eqb (hitValue r a f) 0) _ _ (none-small _) (exception-small _ (hitValue r a f) _ (value-lt r a f))
+      either (eqb (hitValue r a f) 0) _ _ (none-small _) (exception-small _ (hitValue r a f) _ (omega (arith, value-lt r a f)))
   count-small (suc (suc n)) set f = exception-small _ 0 _ (omega arith)
 
-pub translate-value-lt : (r : Registers) (b : Buffer) (a : Access) → (translate r b a) .value < 16
+pub translate-value-le : (r : Registers) (b : Buffer) (a : Access) → (translate r b a) .value ≤ 8
 unfolding translate pageMapped
-translate-value-lt r b a =
+translate-value-le r b a =
     either (inLinearSegment (r .kseg) a) _ _ (none-small r a _)
     (either (isSet (r .enable) || isSet (r .test)) _ _ (count-small r a _ _ _) (none-small r a _))

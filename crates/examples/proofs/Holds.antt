@@ -10,7 +10,7 @@ use Rattle.registers.specs.Refusals.{refuseUnless, refusedOr, byRefusal, drawFi
 use Rattle.page_table.specs.Words.{present, reserved, number, leafValid, leafKernel, leafWe, leafPfn}
 use Rattle.page_table.specs.Stretches.{lengthFits, tablesFit, stretchSize, indexIn, inside, broken}
 use Rattle.page_table.specs.Walk.{leafAt, stopAt, indexBelow, descend, walkTree, globalFirst, walkPage}
-use Rattle.page_table.specs.Faults.{walkFault}
+use Rattle.page_table.specs.Faults.{stopPlace, walkFault, faultKind, faultLevel, faultGlobal}
 use Rattle.slots.specs.Buffer.{bufferFits, slotAt, withSlot}
 use Rattle.slots.specs.Start.{emptyFirst, startBuffer}
 use Rattle.tlb.specs.Hit.{validOrInvExc, vpn15Matches, idMatchesOrGlobal, matchesPage, hit}
@@ -43,6 +43,7 @@ use Rattle.control.specs.Writing.{writeRefusal, writtenEntry, writtenBuffer, wr
 use Rattle.control.specs.Reading.{readRefusal, readValue, readReply}
 use Rattle.control.specs.ReadingBack.{lookAt}
 use Rattle.control.specs.Setting.{isGuarded, switchFits, argumentRefusal, settingRefusal, settingReply}
+use Rattle.sequence.specs.Reader.{settingsOf, readerWalk, leafAnswer, walkAnswer, readerAnswer}
 use Rattle.sequence.specs.Calls.{refusal, accepted, requestOf, effectBy, leftBy}
 use Rattle.sequence.specs.Requests.{effectOf}
 use Rattle.sequence.specs.Calls.{callOn}
@@ -70,6 +71,7 @@ use Rattle.examples.specs.Calls.{short, caused, calls, largest, fields}
 use Rattle.examples.specs.Reads.{distinct, upperBits, afterMissing, refilled, reads}
 use Rattle.examples.specs.Walks.{tables, good, shared, globalBroken, walks}
 use Rattle.examples.specs.Served.{machine, agedEntry, aged, reading, served}
+use Rattle.examples.specs.Stops.{unitSays, readerSays, bothSay, globalDirectoryBroken, globalLeafAbsent, stops}
 use Rattle.examples.specs.Stores.{entryOf, agreeing, sweeps, numbers, stores, guardedSettings}
 use Rattle.examples.specs.Pools.{poolOf, three, poolCalls, pageLoaded, mapped, maps, asked, history, histories}
 use Rattle.examples.specs.Ends.{last, ends}
@@ -90,7 +92,9 @@ unfolding all count lowest vpnOf offsetOf location vpn15Of slotOf setOf unpack j
     bufferAfterWrite readRefusal readValue readReply lookAt Values allComputed allOwed registersWith enabled enabledAfter started user
     supervisor replied entryWith oneEntry twoEntries slotsOf linear selected marked row rowAfter kernelPage openPage rows based segments
     tooWide refusals exceptions globalEntry highBits hits short caused calls largest fields ones distinct upperBits afterMissing refilled reads
-    tables good shared globalBroken walks vpnAt sameLow sameEntry leafValid leafKernel leafWe leafPfn lengthFits tablesFit walkFault
+    tables good shared globalBroken walks vpnAt sameLow sameEntry leafValid leafKernel leafWe leafPfn lengthFits tablesFit stopPlace walkFault
+    faultKind faultLevel faultGlobal settingsOf readerWalk leafAnswer walkAnswer readerAnswer unitSays readerSays bothSay
+    globalDirectoryBroken globalLeafAbsent stops
     setMatches loadSlot loadedBuffer leafEntry isEmpty agreesWithLeaf agreesWithTables kept keptAt settled sweptSlot sweptFirst swept
     emptied written indexFits storeRefusal storedWords storeReply bufferAfterStore wordsAfterStore mayBeServed servedRefusal outcomeOf
     triedReply missed loadedAt registersLoaded bufferLoaded afterMiss bufferAfterMiss firstTry walkFor accessReply accessBuffer servedReply

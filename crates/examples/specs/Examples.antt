@@ -8,6 +8,7 @@ use Rattle.examples.specs.Calls.{calls, fields}
 use Rattle.examples.specs.Reads.{reads}
 use Rattle.examples.specs.Walks.{walks}
 use Rattle.examples.specs.Served.{served}
+use Rattle.examples.specs.Stops.{stops}
 use Rattle.examples.specs.Stores.{sweeps, stores, guardedSettings}
 use Rattle.examples.specs.Pools.{poolCalls, maps, histories}
 use Rattle.examples.specs.Ends.{ends}
@@ -18,4 +19,4 @@ use Rattle.examples.specs.Reports.{reports}
 unfoldable pub examples : List Example
 examples =
     marked ++ rows ++ segments ++ refusals ++ exceptions ++ hits ++ calls ++ fields ++ reads ++ walks
-    ++ served ++ sweeps ++ stores ++ guardedSettings ++ poolCalls ++ maps ++ histories ++ ends ++ sequences ++ traces ++ reports
+    ++ served ++ stops ++ sweeps ++ stores ++ guardedSettings ++ poolCalls ++ maps ++ histories ++ ends ++ sequences ++ traces ++ reports

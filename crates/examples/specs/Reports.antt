@@ -22,7 +22,7 @@ reports =
     ∷ (bookedAll 0 (gain SERVED (pos 1) ∷ []) (pos 4294967294 ∷ []) gives record { totals = pos 4294967295 ∷ []; fits = true })
     ∷ (bookedAll 0 (gain SERVED (pos 1) ∷ []) (pos 4294967295 ∷ []) gives record { totals = pos 4294967296 ∷ []; fits = false })
     ∷ (bookedAll 63 (gain SERVED (pos 1) ∷ []) (pos 7 ∷ []) gives record { totals = pos 7 ∷ []; fits = true })
-    -- faults by value: columns 2 to 9 for 1 to 8, 10 for 16, 11 for 32; no other value has one
+    -- faults by kind: columns 2 to 9 for 1 to 8, 10 for 16, 11 for 32; no other kind has one
     ∷ (faultGains 0 gives [])
     ∷ (faultGains 1 gives gain 2 (pos 1) ∷ [])
     ∷ (faultGains 8 gives gain 9 (pos 1) ∷ [])
@@ -32,6 +32,8 @@ reports =
     -- what a call gives, by its outcome
     ∷ (accessGains (At 0x2ABC) 1 gives gain SERVED (pos 1) ∷ gain LOADS (pos 1) ∷ [])
     ∷ (accessGains (Fault 4) 1 gives gain SERVED (pos 1) ∷ gain LOADS (pos 1) ∷ gain 5 (pos 1) ∷ [])
+    ∷ (accessGains (Fault 0x310) 0 gives gain SERVED (pos 1) ∷ gain LOADS (pos 0) ∷ gain 10 (pos 1) ∷ [])
+    ∷ (accessGains (Fault 0x1220) 0 gives gain SERVED (pos 1) ∷ gain LOADS (pos 0) ∷ gain 11 (pos 1) ∷ [])
     ∷ (accessGains (Refused 5) 0 gives [])
     ∷ (storeGains (Done 2) (negsuc 0) gives gain EMPTIED (pos 2) ∷ gain CHANGE (negsuc 0) ∷ [])
     ∷ (storeGains (Refused 6) (pos 0) gives [])

@@ -62,7 +62,7 @@ workedLines =
     ∷ line (Done 0) 0
     ∷ line (At 0x00246ABC) 1
     ∷ line (At 0x00246ABC) 0
-    ∷ line (Fault 0x10) 0
+    ∷ line (Fault 0x310) 0
     ∷ line (Done 1) 0
     ∷ []
 
@@ -162,10 +162,10 @@ outcomeLines =
     ∷ line (Fault 2) 0
     ∷ line (Fault 1) 0
     ∷ line (At 0x00246ABC) 0
-    ∷ line (Fault 16) 0
+    ∷ line (Fault 0x310) 0
     ∷ line (Done 0) 0
     ∷ line (Done 0) 0
-    ∷ line (Fault 32) 0
+    ∷ line (Fault 0x120) 0
     ∷ line (Done 0) 0
     ∷ line (At 0x2ABC) 0
     ∷ line (Refused 4) 0

@@ -1,3 +1,4 @@
 pub mod RawLaws
 pub mod ServedLaws
 pub mod Locations
+pub mod FaultValues

@@ -1,2 +1,3 @@
 pub mod RawAccess
 pub mod ServedAccess
+pub mod FaultValues

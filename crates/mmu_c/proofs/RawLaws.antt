@@ -1,5 +1,5 @@
 -- What a raw access that is not refused was handed, and the ways through it. Assumes nothing.
-use Prim.Native.Nat.{ℕ, _<_}
+use Prim.Native.Nat.{ℕ, _≤_, _<_}
 use mathlib.Core.Path.{_≡_, refl, sym, ap, _∙_, subst}
 use mathlib.Core.Bool.{not, true}
 use mathlib.Core.List.{List}
@@ -15,7 +15,7 @@ use Rattle.registers.specs.declared.Registers.{Registers}
 use Rattle.access.specs.Translation.{Accepted, translate}
 use Rattle.access.specs.declared.Translation.{Translation}
 use Rattle.access.proofs.Plain.{plain, plain-registers}
-use Rattle.access.proofs.Values.{translate-value-lt}
+use Rattle.access.proofs.Values.{translate-value-le}
 use Rattle.mmu_c.specs.Runs.{registersOf, registerBytes, bufferOf, registersTaken, bufferTaken}
 use Rattle.mmu_c.specs.Answers.{refusalAnswer, translationAnswer}
 use Rattle.mmu_c.specs.RawAccess.{rawRefusal, translation, rawNumber, rawRegisters, RawAccessGives}
@@ -95,5 +95,5 @@ module _ (registers buffer : List ℕ) (a : Access) (n : ℕ) (nq : n ≡ rawRef
 -- a try's value has room in its bits
 pub value-room : (r : Registers) (buffer : List ℕ) (a : Access) (t : Translation) → t ≡ translate r (bufferOf buffer) a → t .value < 65536
 value-room r buffer a t q =
-    let l : t .value < 16 = subst (λ (s : Translation). s .value < 16) (sym q) (translate-value-lt r (bufferOf buffer) a) in
+    let l : t .value ≤ 8 = subst (λ (s : Translation). s .value ≤ 8) (sym q) (translate-value-le r (bufferOf buffer) a) in
     omega arith

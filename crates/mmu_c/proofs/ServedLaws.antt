@@ -1,5 +1,5 @@
 -- What a served access that is not refused was handed, and the ways through it. Assumes nothing.
-use Prim.Native.Nat.{ℕ, _≤_, _<_}
+use Prim.Native.Nat.{ℕ, _+_, _≤_, _<_}
 use mathlib.Core.Path.{_≡_, refl, sym, ap, _∙_, subst}
 use mathlib.Core.Bool.{Bool, true, false, not, cond}
 use mathlib.Core.List.{List}
@@ -15,7 +15,8 @@ use Rattle.registers.specs.declared.Access.{Access}
 use Rattle.registers.specs.declared.Registers.{Registers}
 use Rattle.registers.specs.declared.Reply.{Reply}
 use Rattle.page_table.specs.Walk.{walkPage}
-use Rattle.page_table.specs.Faults.{walkFault}
+use Rattle.page_table.specs.Faults.{stopPlace, walkFault}
+use Rattle.page_table.proofs.FaultLaws.{place-lt}
 use Rattle.page_table.specs.declared.Walk.{Walk}
 use Rattle.page_table.specs.declared.Walk.the-variants.{Leaf, Absent, Broken}
 use Rattle.slots.specs.Buffer.{Buffer}
@@ -26,7 +27,7 @@ use Rattle.access.specs.declared.Physical.the-variants.{Address, None}
 use Rattle.access.specs.declared.Translation.{Translation}
 use Rattle.access.proofs.AccessLaws.{draw-lt}
 use Rattle.access.proofs.Plain.{Plain, plain, plain-registers}
-use Rattle.access.proofs.Values.{translate-value-lt}
+use Rattle.access.proofs.Values.{translate-value-le}
 use Rattle.store.specs.Machine.{Machine}
 use Rattle.table_bytes.specs.TableBytes.{wordsOf}
 use Rattle.mmu.specs.ServedAccess.{mayBeServed, serviceRefusal, outcomeOf, triedReply, missed, afterMiss, firstTry, walkFor, accessReply}
@@ -85,7 +86,7 @@ module _ (r : Registers) (buffer tables run : List ℕ) (a : Access) (first : Tr
 abbrev pub ReplyFits : Reply → Type 0
 ReplyFits reply = (outcomeFits (reply .outcome) ≡ true) × (reply .loads < 16)
 
-tried-fits : (t : Translation) (loads : ℕ) → t .value < 16 → loads < 16 → ReplyFits (triedReply t loads)
+tried-fits : (t : Translation) (loads : ℕ) → t .value ≤ 8 → loads < 16 → ReplyFits (triedReply t loads)
 unfolding triedReply outcomeOf outcomeFits
 tried-fits t loads l k = (by-physical (t .physical), k)
   where
@@ -95,9 +96,9 @@ tried-fits t loads l k = (by-physical (t .physical), k)
 
 miss-fits : (found : Walk) (r : Registers) (b : Buffer) (a : Access) → ReplyFits (afterMiss found r b a)
 unfolding afterMiss walkFault outcomeFits
-miss-fits (Leaf f) r b a = tried-fits _ 1 (translate-value-lt _ _ a) (omega arith)
-miss-fits (Absent s) r b a = (refl, omega arith)
-miss-fits (Broken s) r b a = (refl, omega arith)
+miss-fits (Leaf f) r b a = tried-fits _ 1 (translate-value-le _ _ a) (omega arith)
+miss-fits (Absent s) r b a = (lt-ltb (16 + stopPlace s) 65536 (omega (arith, place-lt s)), omega arith)
+miss-fits (Broken s) r b a = (lt-ltb (32 + stopPlace s) 65536 (omega (arith, place-lt s)), omega arith)
 
 access-fits : (m : Machine) (a : Access) → ReplyFits (accessReply m a)
 unfolding accessReply firstTry
@@ -106,7 +107,7 @@ access-fits m a = by-try (missed (firstTry m a))
     by-try : (t : Bool)
         → ReplyFits (cond t (afterMiss (walkFor m a) ((firstTry m a) .registers) (m .buffer) a) (triedReply (firstTry m a) 0))
     by-try true = miss-fits (walkFor m a) ((firstTry m a) .registers) (m .buffer) a
-    by-try false = tried-fits (firstTry m a) 0 (translate-value-lt (m .registers) (m .buffer) a) (omega arith)
+    by-try false = tried-fits (firstTry m a) 0 (translate-value-le (m .registers) (m .buffer) a) (omega arith)
 
 pub reply-fits : (m : Machine) (a : Access) (reply : Reply) (after : List ℕ) → AccessGivesBytes m a reply after → ReplyFits reply
 reply-fits m a reply after g = subst ReplyFits (sym (g .reply-is)) (access-fits m a)

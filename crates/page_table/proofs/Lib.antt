@@ -3,3 +3,4 @@ pub mod Descents
 pub mod Walks
 pub mod Local
 pub mod Ends
+pub mod FaultLaws

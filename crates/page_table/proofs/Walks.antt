@@ -25,7 +25,7 @@ module _ (words : List ℕ) (vpn : ℕ) (global : Bool) (P : Walk → Type 0) (t
     (leaf : (at : ℕ) → present (getD words at 0) ≡ true → (vpn < 524288 → top < length words → at < length words)
     → P (Leaf (leafAt words global at)))
     (absent : (n : ℕ) → n ≤ 2 → P (Absent (stopAt global n)))
-    (stuck : (n : ℕ) → n ≤ 2 → P (Broken (stopAt global n))) where
+    (stuck : (n : ℕ) → 1 ≤ n → n ≤ 2 → P (Broken (stopAt global n))) where
   from : (n at : ℕ) → n ≤ 2 → (vpn < 524288 → top < length words → at < length words) → P (descend words vpn global n at)
   unfolding descend
   from zero at l h = go (present (getD words at 0)) refl
@@ -44,7 +44,7 @@ module _ (words : List ℕ) (vpn : ℕ) (global : Bool) (P : Walk → Type 0) (t
       go : (b d : Bool) → broken (length words) (stretchSize n) w ≡ d
           → ((vpn < 524288 → top < length words → indexBelow vpn n w < length words) → P next)
           → P (cond b (cond d (Broken (stopAt global (suc n))) next) (Absent (stopAt global (suc n))))
-      go true true e ih = stuck (suc n) l
+      go true true e ih = stuck (suc n) (omega arith) l
       go true false e ih = ih (λ page inside. below-inside (length words) vpn n w page e)
       go false d e ih = absent (suc n) l
 
@@ -61,18 +61,18 @@ whose (Broken s) = s .global
 pub tree-whose : (words : List ℕ) (vpn : ℕ) (global : Bool) (root : ℕ) → whose (walkTree words vpn global root) ≡ global
 unfolding whose leafAt stopAt
 tree-whose words vpn global root =
-    tree-answers words vpn global (λ x. whose x ≡ global) root (λ at on h. refl) (λ n l. refl) (λ n l. refl)
+    tree-answers words vpn global (λ x. whose x ≡ global) root (λ at on h. refl) (λ n l. refl) (λ n k l. refl)
 
--- a stop's level: root 1, directory 2, leaf 3
+-- a stop's level: root 1, directory 2, leaf 3, and no leaf is broken
 unfoldable pub Levelled : Walk → Type 0
 Levelled (Leaf f) = Unit {0}
 Levelled (Absent s) = (1 ≤ s .level) × (s .level ≤ 3)
-Levelled (Broken s) = (1 ≤ s .level) × (s .level ≤ 3)
+Levelled (Broken s) = (1 ≤ s .level) × (s .level ≤ 2)
 
 pub tree-level : (words : List ℕ) (vpn : ℕ) (global : Bool) (root : ℕ) → Levelled (walkTree words vpn global root)
 unfolding Levelled stopAt
 tree-level words vpn global root =
-    tree-answers words vpn global Levelled root (λ at on h. tt) (λ n l. (omega arith, omega arith)) (λ n l. (omega arith, omega arith))
+    tree-answers words vpn global Levelled root (λ at on h. tt) (λ n l. (omega arith, omega arith)) (λ n k l. (omega arith, omega arith))
 
 -- a leaf is the word at its index, which is present and stands in the run
 pub record Stands (words : List ℕ) (f : Found) : Type 0 where
@@ -89,7 +89,7 @@ tree-stands words vpn global root page inside =
     let q : leafAt words global at ≡ f = cc in
     subst (Stands words) q (record { isPresent = on; isRead = refl; inside = h page inside }))
     (λ n l f e. absurd (let z : _≡_ {A = ℕ} 0 1 = cc in omega arith))
-    (λ n l f e. absurd (let z : _≡_ {A = ℕ} 0 1 = cc in omega arith))
+    (λ n k l f e. absurd (let z : _≡_ {A = ℕ} 0 1 = cc in omega arith))
 
 -- what both trees' answers are, the page's walk is
 first-keeps : (P : Walk → Type 0) (x own : Walk) → P x → P own → P (globalFirst x own)

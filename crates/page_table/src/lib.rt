@@ -9,7 +9,7 @@ ghost use Rattle.page_table.specs.Stretches.{stretchSize, indexIn, broke
 ghost use Rattle.page_table.specs.Walk.{indexBelow, walkTree, walkPage};
 ghost use Rattle.page_table.specs.Reads.{leadsOn};
 ghost use Rattle.page_table.specs.Ends.{endOf, decided, ending, EndFits};
-ghost use Rattle.page_table.specs.Faults.{walkFault};
+ghost use Rattle.page_table.specs.Faults.{faultKind, stopPlace, walkFault};
 
 // A leaf: whether it stands in the global tree, its word, and the word's index in the run.
 pub struct Found {
@@ -180,13 +180,28 @@ pub fn walk_page(words: &[u32], id: u32, vpn: u32) -> Walk
     walk_tree(words, vpn, false, id)
 }
 
+// Where a walk stopped, as a fault value carries it: the level in bits 8 to 11, and bit 12 for the global tree.
+fn stop_place(stop: Stop) -> u32
+    ensures { λ r. ⌜ (r ≡ stopPlace stop) × (r < 8192) ⌝ }
+{
+    let tree = stop.global as u32;
+    stop.level % 16 * 256 + tree * 4096
+}
+
 // The fault value of an access that still misses after this walk.
 pub fn walk_fault(found: Walk) -> u32
     ensures { λ r. ⌜ r ≡ walkFault found ⌝ }
 {
     match found {
         Walk::Leaf(_) => 8,
-        Walk::Absent(_) => 16,
-        Walk::Broken(_) => 32,
+        Walk::Absent(stop) => 16 + stop_place(stop),
+        Walk::Broken(stop) => 32 + stop_place(stop),
     }
+}
+
+// The kind of a fault value: 1 to 8, 16 absent, 32 broken.
+pub fn fault_kind(value: u32) -> u32
+    ensures { λ r. ⌜ r ≡ faultKind value ⌝ }
+{
+    value % 256
 }

@@ -9,29 +9,30 @@ use lib.IntN.{ℤ, pos}
 use borrow.Author.Tests.{leb-true, le-leb, lt-leb, eq-eqb, ne-eqb, not-true, not-false}
 use Rattle.registers.specs.declared.Outcome.{Outcome}
 use Rattle.registers.specs.declared.Outcome.the-variants.{At, Fault, Done, Refused}
+use Rattle.page_table.specs.Faults.{faultKind}
 use Rattle.report.specs.Totals.{Gain, SERVED, LOADS, AllWithin, BookGives, BookAllGives}
 use Rattle.report.specs.Gains.{gain, hasColumn, faultColumn, faultGains, accessGains}
 use Rattle.report.proofs.TotalLaws.{books-none, books-one, books-then, books-stop}
 
--- a fault value's column
-pub column-low : (value : ℕ) → value ≤ 8 → value + 1 ≡ faultColumn value
+-- the column of a fault's kind
+pub column-low : (kind : ℕ) → kind ≤ 8 → kind + 1 ≡ faultColumn kind
 unfolding faultColumn
-column-low value h = rw (le-leb value 8 h)
+column-low kind h = rw (le-leb kind 8 h)
 
-pub column-absent : (value : ℕ) → 8 < value → value ≡ 16 → 10 ≡ faultColumn value
+pub column-absent : (kind : ℕ) → 8 < kind → kind ≡ 16 → 10 ≡ faultColumn kind
 unfolding faultColumn
-column-absent value h e = rw (lt-leb value 8 h, eq-eqb value 16 e)
+column-absent kind h e = rw (lt-leb kind 8 h, eq-eqb kind 16 e)
 
-pub column-broken : (value : ℕ) → 8 < value → (value ≡ 16 → ⊥) → 11 ≡ faultColumn value
+pub column-broken : (kind : ℕ) → 8 < kind → (kind ≡ 16 → ⊥) → 11 ≡ faultColumn kind
 unfolding faultColumn
-column-broken value h e = rw (lt-leb value 8 h, ne-eqb value 16 e)
+column-broken kind h e = rw (lt-leb kind 8 h, ne-eqb kind 16 e)
 
-pub column-small : (value r : ℕ) → r ≡ faultColumn value → r < 14
+pub column-small : (kind r : ℕ) → r ≡ faultColumn kind → r < 14
 unfolding faultColumn
-column-small value r e = rw e (go (leb value 8) refl (eqb value 16))
+column-small kind r e = rw e (go (leb kind 8) refl (eqb kind 16))
   where
-    go : (a : Bool) → leb value 8 ≡ a → (b : Bool) → cond a (value + 1) (cond b 10 11) < 14
-    go true h b = let l = leb-true value 8 h in omega arith
+    go : (a : Bool) → leb kind 8 ≡ a → (b : Bool) → cond a (kind + 1) (cond b 10 11) < 14
+    go true h b = let l = leb-true kind 8 h in omega arith
     go false h true = omega arith
     go false h false = omega arith
 
@@ -40,24 +41,25 @@ module _ (id value loads : ℕ) (totals : List ℤ) (b : Bool) (mid : List ℤ)
     (p : BookAllGives id (gain SERVED (pos 1) ∷ gain LOADS (pos loads) ∷ []) totals b mid) where
   pub fault-stop : not b ≡ true → BookAllGives id (accessGains (Fault value) loads) totals false mid
   unfolding accessGains
-  fault-stop e = books-stop id (gain SERVED (pos 1) ∷ gain LOADS (pos loads) ∷ []) (faultGains value) totals b mid p (not-true b e)
+  fault-stop e = books-stop id (gain SERVED (pos 1) ∷ gain LOADS (pos loads) ∷ []) (faultGains (faultKind value)) totals b mid p (not-true b e)
 
-  module _ (e : not b ≡ false) (has : Bool) (told : has ≡ hasColumn value) where
+  module _ (e : not b ≡ false) (kind : ℕ) (kq : kind ≡ faultKind value) (has : Bool) (told : has ≡ hasColumn kind) where
     pub fault-none : not has ≡ true → BookAllGives id (accessGains (Fault value) loads) totals true mid
     unfolding accessGains faultGains
     fault-none h =
-        books-then id (gain SERVED (pos 1) ∷ gain LOADS (pos loads) ∷ []) (faultGains value) totals b mid p (not-false b e) true mid
-        (subst (λ (w : Bool). BookAllGives id (cond w (gain (faultColumn value) (pos 1) ∷ []) []) mid true mid)
-        (sym (not-true has h) ∙ told) (books-none id mid (p .in-limit (not-false b e))))
+        books-then id (gain SERVED (pos 1) ∷ gain LOADS (pos loads) ∷ []) (faultGains (faultKind value)) totals b mid p (not-false b e) true mid
+        (subst (λ (w : Bool). BookAllGives id (cond w (gain (faultColumn (faultKind value)) (pos 1) ∷ []) []) mid true mid)
+        (sym (not-true has h) ∙ told ∙ ap hasColumn kq) (books-none id mid (p .in-limit (not-false b e))))
 
-    pub fault-done : not has ≡ false → (column : ℕ) → column ≡ faultColumn value → (c : Bool) (after : List ℤ)
+    pub fault-done : not has ≡ false → (column : ℕ) → column ≡ faultColumn kind → (c : Bool) (after : List ℤ)
         → BookGives id (gain column (pos 1)) mid c after → BookAllGives id (accessGains (Fault value) loads) totals c after
     unfolding accessGains faultGains
     fault-done h column q c after g =
-        books-then id (gain SERVED (pos 1) ∷ gain LOADS (pos loads) ∷ []) (faultGains value) totals b mid p (not-false b e) c after
-        (subst (λ (w : Bool). BookAllGives id (cond w (gain (faultColumn value) (pos 1) ∷ []) []) mid c after)
-        (sym (not-false has h) ∙ told)
-        (books-one id (gain (faultColumn value) (pos 1)) mid c after (subst (λ (k : ℕ). BookGives id (gain k (pos 1)) mid c after) q g)))
+        books-then id (gain SERVED (pos 1) ∷ gain LOADS (pos loads) ∷ []) (faultGains (faultKind value)) totals b mid p (not-false b e) c after
+        (subst (λ (w : Bool). BookAllGives id (cond w (gain (faultColumn (faultKind value)) (pos 1) ∷ []) []) mid c after)
+        (sym (not-false has h) ∙ told ∙ ap hasColumn kq)
+        (books-one id (gain (faultColumn (faultKind value)) (pos 1)) mid c after
+        (subst (λ (k : ℕ). BookGives id (gain k (pos 1)) mid c after) (q ∙ ap faultColumn kq) g)))
 
 -- an access by its outcome
 module _ (id loads : ℕ) (outcome : Outcome) (totals : List ℤ) where

@@ -5,3 +5,4 @@ pub mod TallyLaws
 pub mod StartLaws
 pub mod SumLaws
 pub mod LimitLaws
+pub mod FaultKinds

@@ -10,6 +10,7 @@ use lib.IntN.{ℤ, pos, natAbs, _+ℤ_, +ℤ-idr, +ℤ-assoc}
 use borrow.Author.Tests.{eqb-true, leb-true, leb-false, le-leb, lt-leb, eq-eqb}
 use Rattle.registers.specs.declared.Outcome.{Outcome}
 use Rattle.registers.specs.declared.Outcome.the-variants.{At, Fault, Done, Refused}
+use Rattle.page_table.specs.Faults.{faultKind}
 use Rattle.store.specs.Machine.{Machine}
 use Rattle.trace.specs.Commands.{commandsOf}
 use Rattle.trace.specs.Steps.{stepReply, wordsAfterStep, machineAfterStep}
@@ -29,7 +30,7 @@ abbrev Apart : List Gain → Type 0
 Apart [] = Unit {0}
 Apart (g ∷ gs) = (amountIn (g .column) gs ≡ pos 0) × Apart gs
 
-fault-high : (value : ℕ) → hasColumn value ≡ true → 2 ≤ faultColumn value
+fault-high : (kind : ℕ) → hasColumn kind ≡ true → 2 ≤ faultColumn kind
 unfolding hasColumn faultColumn
 fault-high zero h = absurd (true≢false (sym h))
 fault-high (suc n) h = go (leb (suc n) 8) (eqb (suc n) 16)
@@ -40,23 +41,23 @@ fault-high (suc n) h = go (leb (suc n) 8) (eqb (suc n) 16)
     go false false = omega arith
 
 -- a fault's column is none of the two of every access
-fault-other : (value column : ℕ) → column < 2 → amountIn column (faultGains value) ≡ pos 0
+fault-other : (kind column : ℕ) → column < 2 → amountIn column (faultGains kind) ≡ pos 0
 unfolding faultGains amountIn gain
-fault-other value column low = go (hasColumn value) refl
+fault-other kind column low = go (hasColumn kind) refl
   where
-    away : (b : Bool) → eqb (faultColumn value) column ≡ b → 2 ≤ faultColumn value → cond b (pos 1) (pos 0) +ℤ pos 0 ≡ pos 0
-    away true e h = let f = eqb-true (faultColumn value) column e in absurd (omega arith)
+    away : (b : Bool) → eqb (faultColumn kind) column ≡ b → 2 ≤ faultColumn kind → cond b (pos 1) (pos 0) +ℤ pos 0 ≡ pos 0
+    away true e h = let f = eqb-true (faultColumn kind) column e in absurd (omega arith)
     away false e h = refl
 
-    go : (b : Bool) → hasColumn value ≡ b → amountIn column (cond b (gain (faultColumn value) (pos 1) ∷ []) []) ≡ pos 0
-    go true e = away (eqb (faultColumn value) column) refl (fault-high value e)
+    go : (b : Bool) → hasColumn kind ≡ b → amountIn column (cond b (gain (faultColumn kind) (pos 1) ∷ []) []) ≡ pos 0
+    go true e = away (eqb (faultColumn kind) column) refl (fault-high kind e)
     go false e = refl
 
-fault-apart : (value : ℕ) → Apart (faultGains value)
+fault-apart : (kind : ℕ) → Apart (faultGains kind)
 unfolding faultGains amountIn
-fault-apart value = go (hasColumn value)
+fault-apart kind = go (hasColumn kind)
   where
-    go : (b : Bool) → Apart (cond b (gain (faultColumn value) (pos 1) ∷ []) [])
+    go : (b : Bool) → Apart (cond b (gain (faultColumn kind) (pos 1) ∷ []) [])
     go true = (refl, tt)
     go false = tt
 
@@ -64,8 +65,8 @@ access-apart : (o : Outcome) (loads : ℕ) → Apart (accessGains o loads)
 unfolding accessGains amountIn gain
 access-apart (At address) loads = (refl, (refl, tt))
 access-apart (Fault value) loads = (
-  ap (λ (z : ℤ). pos 0 +ℤ z) (fault-other value 0 (omega arith)),
-  (fault-other value 1 (omega arith), fault-apart value),
+  ap (λ (z : ℤ). pos 0 +ℤ z) (fault-other (faultKind value) 0 (omega arith)),
+  (fault-other (faultKind value) 1 (omega arith), fault-apart (faultKind value)),
 )
 access-apart (Done value) loads = tt
 access-apart (Refused number) loads = tt

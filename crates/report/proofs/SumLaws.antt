@@ -11,6 +11,7 @@ use lib.IntN.{ℤ, pos, _+ℤ_, +ℤ-idl, +ℤ-idr, +ℤ-assoc}
 use borrow.Author.Tests.{eqb-true, eqb-false, le-leb}
 use Rattle.registers.specs.declared.Outcome.{Outcome}
 use Rattle.registers.specs.declared.Outcome.the-variants.{At, Fault, Done, Refused}
+use Rattle.page_table.specs.Faults.{faultKind}
 use Rattle.store.specs.Machine.{Machine}
 use Rattle.trace.specs.Commands.{commandsOf}
 use Rattle.trace.specs.Steps.{stepReply, wordsAfterStep, machineAfterStep}
@@ -29,18 +30,18 @@ abbrev pub Columned : List Gain → Type 0
 Columned [] = Unit {0}
 Columned (g ∷ gs) = (g .column < 14) × Columned gs
 
-fault-columned : (value : ℕ) → Columned (faultGains value)
+fault-columned : (kind : ℕ) → Columned (faultGains kind)
 unfolding faultGains gain
-fault-columned value = go (hasColumn value)
+fault-columned kind = go (hasColumn kind)
   where
-    go : (b : Bool) → Columned (cond b (gain (faultColumn value) (pos 1) ∷ []) [])
-    go true = (column-small value (faultColumn value) refl, tt)
+    go : (b : Bool) → Columned (cond b (gain (faultColumn kind) (pos 1) ∷ []) [])
+    go true = (column-small kind (faultColumn kind) refl, tt)
     go false = tt
 
 access-columned : (o : Outcome) (loads : ℕ) → Columned (accessGains o loads)
 unfolding accessGains gain
 access-columned (At address) loads = (omega arith, (omega arith, tt))
-access-columned (Fault value) loads = (omega arith, (omega arith, fault-columned value))
+access-columned (Fault value) loads = (omega arith, (omega arith, fault-columned (faultKind value)))
 access-columned (Done value) loads = tt
 access-columned (Refused number) loads = tt
 

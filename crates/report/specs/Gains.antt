@@ -6,6 +6,7 @@ use lib.Dec.{eqb, leb}
 use lib.IntN.{ℤ, pos, _-ℤ_}
 use Rattle.registers.specs.declared.Outcome.{Outcome}
 use Rattle.registers.specs.declared.Outcome.the-variants.{At, Fault, Done, Refused}
+use Rattle.page_table.specs.Faults.{faultKind}
 use Rattle.store.specs.Machine.{Machine}
 use Rattle.reach.specs.Leaves.{leafCount}
 use Rattle.trace.specs.Steps.{stepReply, wordsAfterStep}
@@ -17,21 +18,22 @@ use Rattle.report.specs.Totals.{Gain, SERVED, LOADS, EMPTIED, CHANGE}
 unfoldable pub gain : (column : ℕ) (amount : ℤ) → Gain
 gain column amount = record { column = column; amount = amount }
 
--- "faults by value (1 to 8, 16, 32)": columns 2 to 11. No other value has a column.
-unfoldable pub hasColumn : (value : ℕ) → Bool
-hasColumn value = (leb 1 value && leb value 8) || eqb value 16 || eqb value 32
+-- "faults by value (1 to 8, 16, 32)": columns 2 to 11, by the kind of the value. No other kind has a column.
+unfoldable pub hasColumn : (kind : ℕ) → Bool
+hasColumn kind = (leb 1 kind && leb kind 8) || eqb kind 16 || eqb kind 32
 
--- the column of such a value
-unfoldable pub faultColumn : (value : ℕ) → ℕ
-faultColumn value = cond (leb value 8) (value + 1) (cond (eqb value 16) 10 11)
+-- the column of such a kind
+unfoldable pub faultColumn : (kind : ℕ) → ℕ
+faultColumn kind = cond (leb kind 8) (kind + 1) (cond (eqb kind 16) 10 11)
 
-unfoldable pub faultGains : (value : ℕ) → List Gain
-faultGains value = cond (hasColumn value) (gain (faultColumn value) (pos 1) ∷ []) []
+unfoldable pub faultGains : (kind : ℕ) → List Gain
+faultGains kind = cond (hasColumn kind) (gain (faultColumn kind) (pos 1) ∷ []) []
 
--- an accepted served access, of any outcome, counts once, with its loads; a fault counts by its value
+-- An accepted served access, of any outcome, counts once, with its loads. A fault counts by its kind, the low bits of its value, wherever
+-- its walk stopped: "W-201 still counts them as 16 and 32".
 unfoldable pub accessGains : Outcome → (loads : ℕ) → List Gain
 accessGains (At address) loads = gain SERVED (pos 1) ∷ gain LOADS (pos loads) ∷ []
-accessGains (Fault value) loads = gain SERVED (pos 1) ∷ gain LOADS (pos loads) ∷ faultGains value
+accessGains (Fault value) loads = gain SERVED (pos 1) ∷ gain LOADS (pos loads) ∷ faultGains (faultKind value)
 accessGains (Done value) loads = []
 accessGains (Refused number) loads = []
 

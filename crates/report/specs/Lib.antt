@@ -3,3 +3,4 @@ pub mod Ready
 pub mod Gains
 pub mod Tallies
 pub mod Sums
+pub mod FaultKinds

@@ -17,21 +17,21 @@ const EMPTIED: u32 = 12;
 
 const CHANGE: u32 = 13;
 
-// The fault values that have a column: 1 to 8, 16 and 32.
-fn has_column(value: u32) -> bool
-    ensures { λ b. ⌜ b ≡ hasColumn value ⌝ }
+// The kinds of faults that have a column: 1 to 8, 16 and 32.
+fn has_column(kind: u32) -> bool
+    ensures { λ b. ⌜ b ≡ hasColumn kind ⌝ }
 {
-    ((1 <= value) & (value <= 8)) | (value == 16) | (value == 32)
+    ((1 <= kind) & (kind <= 8)) | (kind == 16) | (kind == 32)
 }
 
-// The column of such a value.
-fn fault_column(value: u32) -> u32
-    ensures { λ r. ⌜ r ≡ faultColumn value ⌝ }
+// The column of such a kind.
+fn fault_column(kind: u32) -> u32
+    ensures { λ r. ⌜ r ≡ faultColumn kind ⌝ }
 {
-    if value <= 8 {
-        return value + 1;
+    if kind <= 8 {
+        return kind + 1;
     }
-    if value == 16 {
+    if kind == 16 {
         return 10;
     }
     11
@@ -65,7 +65,7 @@ fn book_served(totals: &mut [i64], id: u32, loads: u32) -> bool
     book(totals, id, LOADS, amount)
 }
 
-// A fault counts by its value as well.
+// A fault counts by its kind as well, wherever its walk stopped.
 fn book_fault(totals: &mut [i64], id: u32, value: u32, loads: u32) -> bool
     requires { ⌜ (length (now totals) ≡ 882) × AllWithin (now totals) ⌝ }
     ensures { λ b. ⌜ BookAllGives id (accessGains (Outcome.Fault value) loads) (now (totals .entry)) b (now (totals .exit)) ⌝ }
@@ -73,10 +73,11 @@ fn book_fault(totals: &mut [i64], id: u32, value: u32, loads: u32) -> bool
     if !book_served(totals, id, loads) {
         return false;
     }
-    if !has_column(value) {
+    let kind = page_table::fault_kind(value);
+    if !has_column(kind) {
         return true;
     }
-    let column = fault_column(value);
+    let column = fault_column(kind);
     book(totals, id, column, 1)
 }
 

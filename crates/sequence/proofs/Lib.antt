@@ -7,3 +7,4 @@ pub mod Taking
 pub mod Refusing
 pub mod Theorem
 pub mod Asking
+pub mod FaultValues

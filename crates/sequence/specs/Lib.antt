@@ -7,3 +7,4 @@ pub mod Systems
 pub mod Sentences
 pub mod Demand3
 pub mod Asks
+pub mod FaultValues

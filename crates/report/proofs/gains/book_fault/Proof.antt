@@ -15,6 +15,9 @@ same-length c = search needs
 returns : tie.Need-returns
 returns c = fault-stop _ _ _ _ _ _ (c .before .before .book-served .ensures) (c .if1 .taken)
 
+fault-kind-requires : tie.Need-fault-kind-requires
+fault-kind-requires c κs = search needs
+
 has-column-requires : tie.Need-has-column-requires
 has-column-requires c κs = search needs
 
@@ -22,17 +25,15 @@ same-length-2 : tie.Need-same-length-2
 same-length-2 c = search needs
 
 returns-2 : tie.Need-returns-2
-returns-2 c = fault-none _ _ _ _ _ _ (c .before .before .before .before .book-served .ensures) (c .before .before .if1 .left) _ (c
-    .before .has-column .ensures) (c .if2 .taken)
+returns-2 c = fault-none _ _ _ _ _ _ (c .before .before .before .before .before .book-served .ensures) (c .before .before .before .if1 .left) _ (c .before .before .fault-kind .ensures) _ (c .before .has-column .ensures) (c .if2 .taken)
 
 fault-column-requires : tie.Need-fault-column-requires
 fault-column-requires c κs = search needs
 
 book-requires : tie.Need-book-requires
 book-requires c κs = (
-  c .before .before .before .before .before .totals .given ∙ c .before .before .before .before .before .before .before .before .pre .0,
-  c .before .before .before .before .before .before .book-served .ensures .in-limit (not-false (c .before .before .before .before
-      .before .before .book-served .result) (c .before .before .before .before .if1 .left)),
+  c .before .before .before .before .before .before .totals .given ∙ c .before .before .before .before .before .before .before .before .before .pre .0,
+  c .before .before .before .before .before .before .before .book-served .ensures .in-limit (not-false (c .before .before .before .before .before .before .before .book-served .result) (c .before .before .before .before .before .if1 .left)),
   column-small _ _ (c .before .fault-column .ensures),
   omega arith,
 )
@@ -41,9 +42,7 @@ same-length-3 : tie.Need-same-length-3
 same-length-3 c = search needs
 
 returns-3 : tie.Need-returns-3
-returns-3 c = fault-done _ _ _ _ _ _ (c .before .before .before .before .before .before .before .before .book-served .ensures) (c
-    .before .before .before .before .before .before .if1 .left) _ (c .before .before .before .before .before .has-column .ensures) (c
-    .before .before .before .before .if2 .left) _ (c .before .before .before .fault-column .ensures) _ _ (c .before .book .ensures)
+returns-3 c = fault-done _ _ _ _ _ _ (c .before .before .before .before .before .before .before .before .before .book-served .ensures) (c .before .before .before .before .before .before .before .if1 .left) _ (c .before .before .before .before .before .before .fault-kind .ensures) _ (c .before .before .before .before .before .has-column .ensures) (c .before .before .before .before .if2 .left) _ (c .before .before .before .fault-column .ensures) _ _ (c .before .book .ensures)
 
 pub book-fault-spec : {M : Type 1} → statement M
 book-fault-spec =
@@ -52,6 +51,7 @@ book-fault-spec =
     book-served-requires
     same-length
     returns
+    fault-kind-requires
     has-column-requires
     same-length-2
     returns-2

@@ -1,0 +1,31 @@
+-- The faults of walks count as 16 and 32, and all others as the exceptions that they are. Assumes nothing.
+use Prim.Native.Nat.{ℕ, _+_, _≤_}
+use mathlib.Core.Path.{_≡_, refl, ap}
+use mathlib.Core.Bool.{true}
+use mathlib.Core.List.{List, [], _∷_}
+use native.Mathlib.Omega.{arith}
+use lib.IntN.{pos}
+use borrow.Author.Tests.{le-leb}
+use Rattle.registers.specs.declared.Outcome.the-variants.{Fault}
+use Rattle.page_table.specs.Faults.{walkFault, faultKind}
+use Rattle.page_table.specs.declared.Stop.{Stop}
+use Rattle.page_table.specs.declared.Walk.the-variants.{Absent, Broken}
+use Rattle.page_table.proofs.FaultLaws.{kind-told}
+use Rattle.report.specs.Totals.{Gain, SERVED, LOADS}
+use Rattle.report.specs.Gains.{gain, hasColumn, faultColumn, faultGains, accessGains}
+use Rattle.report.specs.FaultKinds.{CountedByKind}
+
+-- the gains of a kind that has a column
+kind-gains : (loads value kind column : ℕ) → faultKind value ≡ kind → hasColumn kind ≡ true → faultColumn kind ≡ column
+    → accessGains (Fault value) loads ≡ gain SERVED (pos 1) ∷ gain LOADS (pos loads) ∷ gain column (pos 1) ∷ []
+unfolding accessGains faultGains
+kind-gains loads value kind column k h c = rw (k, h, c)
+
+pub counted-by-kind : (loads : ℕ) → CountedByKind loads
+unfolding walkFault hasColumn faultColumn faultKind
+counted-by-kind loads = record {
+  absent = λ s. kind-gains loads _ 16 10 (kind-told 16 s (omega arith)) refl refl;
+  broken = λ s. kind-gains loads _ 32 11 (kind-told 32 s (omega arith)) refl refl;
+  exception =
+      λ value low high. kind-gains loads value value (value + 1) (omega arith) (rw (le-leb 1 value low, le-leb value 8 high)) (rw (le-leb value 8 high));
+}

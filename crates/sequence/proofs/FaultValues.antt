@@ -1,0 +1,87 @@
+-- The fault values of the reader, and so of every access in a sequence. Assumes nothing.
+use Prim.Native.Nat.{ℕ, _≤_, _<_}
+use mathlib.Core.Path.{_≡_, refl, sym, subst}
+use mathlib.Core.Bool.{Bool, true, false, cond, not, _&&_}
+use mathlib.Core.Logic.{inl, inr}
+use native.Mathlib.Omega.{arith}
+use lib.Dec.{eqb}
+use borrow.Author.Tests.{eqb-false}
+use Rattle.registers.specs.declared.Access.{Access}
+use Rattle.registers.specs.declared.Outcome.{Outcome}
+use Rattle.registers.specs.declared.Outcome.the-variants.{At, Fault, Done, Refused}
+use Rattle.page_table.specs.Words.{leafValid, leafKernel, leafWe, leafPfn}
+use Rattle.page_table.specs.Faults.{walkFault, ToldByFault}
+use Rattle.page_table.proofs.FaultLaws.{walk-told}
+use Rattle.page_table.specs.declared.Found.{Found}
+use Rattle.page_table.specs.declared.Walk.{Walk}
+use Rattle.page_table.specs.declared.Walk.the-variants.{Leaf, Absent, Broken}
+use Rattle.access.specs.Segments.{inLinearSegment, linearAddress}
+use Rattle.access.specs.Exceptions.{invExc, exceptionValue}
+use Rattle.access.specs.Translation.{isSet, pageAddress}
+use Rattle.access.proofs.Keeping.{exception-lt}
+use Rattle.mmu.specs.FaultValues.{FaultSays}
+use Rattle.mmu.proofs.FaultValues.{absent-says, broken-says}
+use Rattle.sequence.specs.Reader.{Reader, readerWalk, leafAnswer, walkAnswer, readerAnswer}
+use Rattle.sequence.specs.Effects.{Effect, AnswerOwed}
+use Rattle.sequence.specs.Effects.Effect.{Keep, Serve, Rewrite, Set}
+use Rattle.sequence.specs.Calls.{Event, effectBy}
+use Rattle.sequence.specs.Sentences.{AnsweredAsReader}
+use Rattle.sequence.specs.Systems.{System, Moment, IfAccepted}
+use Rattle.sequence.specs.Systems.Moment.{Start, After}
+use Rattle.sequence.specs.Demand3.{Holds}
+use Rattle.sequence.specs.FaultValues.{ReaderFaults, FaultOwed, FaultGiven, SequenceFaults}
+
+-- a leaf's fault: 8, or its exceptions, of which there is one
+leaf-says : (ctrl : ℕ) (a : Access) (f : Found) → FaultSays 1 (Leaf f) (leafAnswer ctrl a f)
+unfolding FaultSays leafAnswer walkFault
+leaf-says ctrl a f = by-bits (not (leafValid (f .word)) && not (invExc ctrl)) (eqb value 0) refl
+  where
+    value : ℕ
+    value = exceptionValue ctrl a (leafValid (f .word)) (leafKernel (f .word)) (leafWe (f .word))
+
+    by-bits : (unseen none : Bool) → eqb value 0 ≡ none
+        → FaultSays 1 (Leaf f)
+        (cond unseen (Fault 8) (cond none (At (pageAddress (leafPfn (f .word)) (a .address))) (Fault value)))
+    by-bits true none e = inl (omega arith, omega arith)
+    by-bits false true e = tt
+    by-bits false false e =
+        let some = eqb-false value 0 e in
+        let low = exception-lt ctrl a (leafValid (f .word)) (leafKernel (f .word)) (leafWe (f .word)) in
+        inl (omega arith, omega arith)
+
+walk-says : (found : Walk) (ctrl : ℕ) (a : Access) → ToldByFault found → FaultSays 1 found (walkAnswer found ctrl a)
+unfolding walkAnswer
+walk-says (Leaf f) ctrl a told = leaf-says ctrl a f
+walk-says (Absent s) ctrl a told = absent-says 1 s told
+walk-says (Broken s) ctrl a told = broken-says 1 s told
+
+at-says : (found : Walk) (address : ℕ) → FaultSays 1 found (At address)
+unfolding FaultSays
+at-says found address = tt
+
+pub reader-faults : ReaderFaults
+unfolding readerAnswer readerWalk
+reader-faults d a = by-rule (isSet (d .settings .enable)) (inLinearSegment (d .settings .kseg) a)
+  where
+    linear : ℕ
+    linear = linearAddress (d .settings .kbase-lo) (d .settings .kbase-hi) (a .address)
+
+    by-rule : (on in-segment : Bool)
+        → FaultSays 1 (readerWalk d a)
+        (cond on (cond in-segment (At linear) (walkAnswer (readerWalk d a) (d .settings .ctrl) a)) (At (a .address)))
+    by-rule true true = at-says (readerWalk d a) linear
+    by-rule true false = walk-says (readerWalk d a) (d .settings .ctrl) a (walk-told (d .words) _ _)
+    by-rule false in-segment = at-says (readerWalk d a) (a .address)
+
+-- the answer that an effect owes is the reader's
+owed : (d : Reader) (e : Effect) (outcome : Outcome) → AnswerOwed d e outcome → FaultOwed d e outcome
+unfolding AnswerOwed FaultOwed
+owed d Keep outcome q = tt
+owed d (Serve a) outcome q = subst (FaultSays 1 (readerWalk d a)) (sym q) (reader-faults d a)
+owed d (Rewrite gs) outcome q = tt
+owed d (Set number value) outcome q = tt
+
+pub sequence-faults : SequenceFaults
+unfolding IfAccepted FaultGiven AnsweredAsReader
+sequence-faults s Start h = tt
+sequence-faults s (After before event) h = λ yes. owed (before .reader) (effectBy (event .call)) (event .reply .outcome) (h .same-answer yes)
