@@ -43,6 +43,15 @@ static void set_up(void)
     mmu_put_word(unit.registers + MMU_AT_ENABLE, 1);
 }
 
+/* The kind of a fault and, where a walk stopped without a leaf, the level of the word that decided. */
+static void print_fault(uint64_t answer)
+{
+    printf("fault %" PRIu32, mmu_kind(answer));
+    if (mmu_level(answer) != 0)
+        printf(" at level %" PRIu32 "%s", mmu_level(answer), mmu_in_global_tree(answer) ? " of the global tree" : "");
+    printf(", loads %" PRIu32 "%s\n", mmu_loads(answer), mmu_interrupts(answer) ? ", interrupts" : "");
+}
+
 static void print_access(const char *step, uint64_t answer)
 {
     printf("%s: ", step);
@@ -51,8 +60,7 @@ static void print_access(const char *step, uint64_t answer)
     else if (mmu_has_address(answer))
         printf("at %08" PRIX32 ", loads %" PRIu32 "\n", mmu_address(answer), mmu_loads(answer));
     else
-        printf("fault %" PRIu32 ", loads %" PRIu32 "%s\n", mmu_value(answer), mmu_loads(answer),
-               mmu_interrupts(answer) ? ", interrupts" : "");
+        print_fault(answer);
 }
 
 /* A user's access of the page, served. */

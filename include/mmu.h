@@ -66,7 +66,7 @@ uint64_t mmu_table_store(const uint8_t *registers, size_t registers_len,
 #define MMU_KERNEL 0x20000000u  /* The leaf's page is the kernel's. */
 #define MMU_WE 0x10000000u      /* The leaf's page may be written. */
 
-/* The values of exceptions, added up where several come together; only a served access gives the last two. */
+/* The kinds of exceptions and faults, the first three added up where they come together; only a served access gives the last two. */
 
 #define MMU_WRITE_ERROR 1u      /* The page may not be written. */
 #define MMU_ACCESS_VIOLATION 2u /* The page is the kernel's. */
@@ -75,11 +75,20 @@ uint64_t mmu_table_store(const uint8_t *registers, size_t registers_len,
 #define MMU_ABSENT 16u          /* The walk met a word that is not present. */
 #define MMU_BROKEN 32u          /* The walk met a present word that names no directory or table. */
 
+/* The levels at which a walk stops. */
+
+#define MMU_LEVEL_ROOT 1u      /* The word is a root. */
+#define MMU_LEVEL_DIRECTORY 2u /* The word stands in a directory. */
+#define MMU_LEVEL_LEAF 3u      /* The word stands in a table. */
+
 /* The lowest bit of each part of an answer. */
 
 #define MMU_ADDRESS_BIT 0      /* 32 bits are the address of an access. */
 #define MMU_EMPTIED_BIT 0      /* 32 bits are the slots emptied by a store. */
-#define MMU_VALUE_BIT 32       /* 16 bits are the value of the exception or fault. */
+#define MMU_VALUE_BIT 32       /* 16 bits are the value of the exception or fault: its kind, level and tree. */
+#define MMU_KIND_BIT 32        /* Eight bits are its kind. */
+#define MMU_LEVEL_BIT 40       /* Four bits are the level at which a walk stopped. */
+#define MMU_GLOBAL_TREE_BIT 44 /* One bit says that it stopped in the global tree. */
 #define MMU_LOADS_BIT 48       /* Four bits are the entries loaded. */
 #define MMU_HAS_ADDRESS_BIT 52 /* One bit says that there is an address. */
 #define MMU_INTERRUPTS_BIT 53  /* One bit says that a raw access interrupts. */
@@ -116,6 +125,24 @@ static inline bool mmu_excepted(uint64_t answer)
 static inline uint32_t mmu_value(uint64_t answer)
 {
     return (uint32_t)(answer >> MMU_VALUE_BIT & 0xFFFFu);
+}
+
+/* The kind of the exception or fault: the value without level and tree. */
+static inline uint32_t mmu_kind(uint64_t answer)
+{
+    return (uint32_t)(answer >> MMU_KIND_BIT & 0xFFu);
+}
+
+/* The level of the word at which an absent or broken walk stopped, and 0 for every other answer. */
+static inline uint32_t mmu_level(uint64_t answer)
+{
+    return (uint32_t)(answer >> MMU_LEVEL_BIT & 15u);
+}
+
+/* Whether that word stood in the global tree. */
+static inline bool mmu_in_global_tree(uint64_t answer)
+{
+    return (answer >> MMU_GLOBAL_TREE_BIT & 1u) != 0;
 }
 
 /* Whether a raw access interrupts; a served access and a store say no. */

@@ -92,8 +92,8 @@ unfolding all count lowest vpnOf offsetOf location vpn15Of slotOf setOf unpack j
     bufferAfterWrite readRefusal readValue readReply lookAt Values allComputed allOwed registersWith enabled enabledAfter started user
     supervisor replied entryWith oneEntry twoEntries slotsOf linear selected marked row rowAfter kernelPage openPage rows based segments
     tooWide refusals exceptions globalEntry highBits hits short caused calls largest fields ones distinct upperBits afterMissing refilled reads
-    tables good shared globalBroken walks vpnAt sameLow sameEntry leafValid leafKernel leafWe leafPfn lengthFits tablesFit stopPlace walkFault
-    faultKind faultLevel faultGlobal settingsOf readerWalk leafAnswer walkAnswer readerAnswer unitSays readerSays bothSay
+    tables good shared globalBroken walks vpnAt sameLow sameEntry leafValid leafKernel leafWe leafPfn lengthFits tablesFit stopPlace
+    walkFault faultKind faultLevel faultGlobal settingsOf readerWalk leafAnswer walkAnswer readerAnswer unitSays readerSays bothSay
     globalDirectoryBroken globalLeafAbsent stops
     setMatches loadSlot loadedBuffer leafEntry isEmpty agreesWithLeaf agreesWithTables kept keptAt settled sweptSlot sweptFirst swept
     emptied written indexFits storeRefusal storedWords storeReply bufferAfterStore wordsAfterStore mayBeServed servedRefusal outcomeOf

@@ -1,6 +1,6 @@
 -- The faults of walks count as 16 and 32, and all others as the exceptions that they are. Assumes nothing.
 use Prim.Native.Nat.{ℕ, _+_, _≤_}
-use mathlib.Core.Path.{_≡_, refl, ap}
+use mathlib.Core.Path.{_≡_, refl, ap, _∙_}
 use mathlib.Core.Bool.{true}
 use mathlib.Core.List.{List, [], _∷_}
 use native.Mathlib.Omega.{arith}
@@ -16,10 +16,15 @@ use Rattle.report.specs.Gains.{gain, hasColumn, faultColumn, faultGains,
 use Rattle.report.specs.FaultKinds.{CountedByKind}
 
 -- the gains of a kind that has a column
+column-gains : (kind column : ℕ) → hasColumn kind ≡ true → faultColumn kind ≡ column → faultGains kind ≡ gain column (pos 1) ∷ []
+unfolding faultGains
+column-gains kind column h c = rw (h, c)
+
 kind-gains : (loads value kind column : ℕ) → faultKind value ≡ kind → hasColumn kind ≡ true → faultColumn kind ≡ column
     → accessGains (Fault value) loads ≡ gain SERVED (pos 1) ∷ gain LOADS (pos loads) ∷ gain column (pos 1) ∷ []
-unfolding accessGains faultGains
-kind-gains loads value kind column k h c = rw (k, h, c)
+unfolding accessGains
+kind-gains loads value kind column k h c =
+    ap (λ (gains : List Gain). gain SERVED (pos 1) ∷ gain LOADS (pos loads) ∷ gains) (ap faultGains k ∙ column-gains kind column h c)
 
 pub counted-by-kind : (loads : ℕ) → CountedByKind loads
 unfolding walkFault hasColumn faultColumn faultKind
@@ -27,5 +32,6 @@ counted-by-kind loads = record {
   absent = λ s. kind-gains loads _ 16 10 (kind-told 16 s (omega arith)) refl refl;
   broken = λ s. kind-gains loads _ 32 11 (kind-told 32 s (omega arith)) refl refl;
   exception =
-      λ value low high. kind-gains loads value value (value + 1) (omega arith) (rw (le-leb 1 value low, le-leb value 8 high)) (rw (le-leb value 8 high));
+      λ value low high.
+      kind-gains loads value value (value + 1) (omega arith) (rw (le-leb 1 value low, le-leb value 8 high)) (rw (le-leb value 8 high));
 }

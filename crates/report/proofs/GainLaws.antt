@@ -41,13 +41,15 @@ module _ (id value loads : ℕ) (totals : List ℤ) (b : Bool) (mid : List ℤ)
     (p : BookAllGives id (gain SERVED (pos 1) ∷ gain LOADS (pos loads) ∷ []) totals b mid) where
   pub fault-stop : not b ≡ true → BookAllGives id (accessGains (Fault value) loads) totals false mid
   unfolding accessGains
-  fault-stop e = books-stop id (gain SERVED (pos 1) ∷ gain LOADS (pos loads) ∷ []) (faultGains (faultKind value)) totals b mid p (not-true b e)
+  fault-stop e =
+      books-stop id (gain SERVED (pos 1) ∷ gain LOADS (pos loads) ∷ []) (faultGains (faultKind value)) totals b mid p (not-true b e)
 
   module _ (e : not b ≡ false) (kind : ℕ) (kq : kind ≡ faultKind value) (has : Bool) (told : has ≡ hasColumn kind) where
     pub fault-none : not has ≡ true → BookAllGives id (accessGains (Fault value) loads) totals true mid
     unfolding accessGains faultGains
     fault-none h =
-        books-then id (gain SERVED (pos 1) ∷ gain LOADS (pos loads) ∷ []) (faultGains (faultKind value)) totals b mid p (not-false b e) true mid
+        books-then id (gain SERVED (pos 1) ∷ gain LOADS (pos loads) ∷ []) (faultGains (faultKind value)) totals b mid p
+        (not-false b e) true mid
         (subst (λ (w : Bool). BookAllGives id (cond w (gain (faultColumn (faultKind value)) (pos 1) ∷ []) []) mid true mid)
         (sym (not-true has h) ∙ told ∙ ap hasColumn kq) (books-none id mid (p .in-limit (not-false b e))))
 
@@ -55,7 +57,8 @@ module _ (id value loads : ℕ) (totals : List ℤ) (b : Bool) (mid : List ℤ)
         → BookGives id (gain column (pos 1)) mid c after → BookAllGives id (accessGains (Fault value) loads) totals c after
     unfolding accessGains faultGains
     fault-done h column q c after g =
-        books-then id (gain SERVED (pos 1) ∷ gain LOADS (pos loads) ∷ []) (faultGains (faultKind value)) totals b mid p (not-false b e) c after
+        books-then id (gain SERVED (pos 1) ∷ gain LOADS (pos loads) ∷ []) (faultGains (faultKind value)) totals b mid p
+        (not-false b e) c after
         (subst (λ (w : Bool). BookAllGives id (cond w (gain (faultColumn (faultKind value)) (pos 1) ∷ []) []) mid c after)
         (sym (not-false has h) ∙ told ∙ ap hasColumn kq)
         (books-one id (gain (faultColumn (faultKind value)) (pos 1)) mid c after

@@ -10,7 +10,7 @@ use Rattle.page_table.specs.declared.Walk.the-variants.{Absent, Broken}
 use Rattle.report.specs.Totals.{SERVED, LOADS}
 use Rattle.report.specs.Gains.{gain, accessGains}
 
--- "W-201 still counts them as 16 and 32", wherever the walk stopped: column 10 counts the absent ones, 11 the broken ones, and value + 1 the
+-- "still counts them as 16 and 32", wherever the walk stopped: column 10 counts the absent ones, 11 the broken ones, and value + 1 the
 -- exceptions 1 to 8
 pub record CountedByKind (loads : ℕ) : Type 0 where
   pub absent : (s : Stop)

@@ -30,7 +30,7 @@ unfoldable pub faultGains : (kind : ℕ) → List Gain
 faultGains kind = cond (hasColumn kind) (gain (faultColumn kind) (pos 1) ∷ []) []
 
 -- An accepted served access, of any outcome, counts once, with its loads. A fault counts by its kind, the low bits of its value, wherever
--- its walk stopped: "W-201 still counts them as 16 and 32".
+-- its walk stopped: the report "still counts them as 16 and 32".
 unfoldable pub accessGains : Outcome → (loads : ℕ) → List Gain
 accessGains (At address) loads = gain SERVED (pos 1) ∷ gain LOADS (pos loads) ∷ []
 accessGains (Fault value) loads = gain SERVED (pos 1) ∷ gain LOADS (pos loads) ∷ faultGains (faultKind value)

@@ -29,10 +29,10 @@ use Rattle.sequence.specs.Sentences.{AnsweredAsReader}
 use Rattle.sequence.specs.Systems.{System, Moment, IfAccepted}
 use Rattle.sequence.specs.Systems.Moment.{Start, After}
 use Rattle.sequence.specs.Demand3.{Holds}
-use Rattle.sequence.specs.FaultValues.{ReaderFaults, FaultOwed, FaultGiven, SequenceFaults}
+use Rattle.sequence.specs.FaultValues.{leastFault, ReaderFaults, FaultOwed, FaultGiven, SequenceFaults}
 
 -- a leaf's fault: 8, or its exceptions, of which there is one
-leaf-says : (ctrl : ℕ) (a : Access) (f : Found) → FaultSays 1 (Leaf f) (leafAnswer ctrl a f)
+leaf-says : (ctrl : ℕ) (a : Access) (f : Found) → FaultSays leastFault (Leaf f) (leafAnswer ctrl a f)
 unfolding FaultSays leafAnswer walkFault
 leaf-says ctrl a f = by-bits (not (leafValid (f .word)) && not (invExc ctrl)) (eqb value 0) refl
   where
@@ -40,7 +40,7 @@ leaf-says ctrl a f = by-bits (not (leafValid (f .word)) && not (invExc ctrl)) (e
     value = exceptionValue ctrl a (leafValid (f .word)) (leafKernel (f .word)) (leafWe (f .word))
 
     by-bits : (unseen none : Bool) → eqb value 0 ≡ none
-        → FaultSays 1 (Leaf f)
+        → FaultSays leastFault (Leaf f)
         (cond unseen (Fault 8) (cond none (At (pageAddress (leafPfn (f .word)) (a .address))) (Fault value)))
     by-bits true none e = inl (omega arith, omega arith)
     by-bits false true e = tt
@@ -49,13 +49,13 @@ leaf-says ctrl a f = by-bits (not (leafValid (f .word)) && not (invExc ctrl)) (e
         let low = exception-lt ctrl a (leafValid (f .word)) (leafKernel (f .word)) (leafWe (f .word)) in
         inl (omega arith, omega arith)
 
-walk-says : (found : Walk) (ctrl : ℕ) (a : Access) → ToldByFault found → FaultSays 1 found (walkAnswer found ctrl a)
+walk-says : (found : Walk) (ctrl : ℕ) (a : Access) → ToldByFault found → FaultSays leastFault found (walkAnswer found ctrl a)
 unfolding walkAnswer
 walk-says (Leaf f) ctrl a told = leaf-says ctrl a f
-walk-says (Absent s) ctrl a told = absent-says 1 s told
-walk-says (Broken s) ctrl a told = broken-says 1 s told
+walk-says (Absent s) ctrl a told = absent-says leastFault s told
+walk-says (Broken s) ctrl a told = broken-says leastFault s told
 
-at-says : (found : Walk) (address : ℕ) → FaultSays 1 found (At address)
+at-says : (found : Walk) (address : ℕ) → FaultSays leastFault found (At address)
 unfolding FaultSays
 at-says found address = tt
 
@@ -67,7 +67,7 @@ reader-faults d a = by-rule (isSet (d .settings .enable)) (inLinearSegment (d .s
     linear = linearAddress (d .settings .kbase-lo) (d .settings .kbase-hi) (a .address)
 
     by-rule : (on in-segment : Bool)
-        → FaultSays 1 (readerWalk d a)
+        → FaultSays leastFault (readerWalk d a)
         (cond on (cond in-segment (At linear) (walkAnswer (readerWalk d a) (d .settings .ctrl) a)) (At (a .address)))
     by-rule true true = at-says (readerWalk d a) linear
     by-rule true false = walk-says (readerWalk d a) (d .settings .ctrl) a (walk-told (d .words) _ _)
@@ -77,11 +77,12 @@ reader-faults d a = by-rule (isSet (d .settings .enable)) (inLinearSegment (d .s
 owed : (d : Reader) (e : Effect) (outcome : Outcome) → AnswerOwed d e outcome → FaultOwed d e outcome
 unfolding AnswerOwed FaultOwed
 owed d Keep outcome q = tt
-owed d (Serve a) outcome q = subst (FaultSays 1 (readerWalk d a)) (sym q) (reader-faults d a)
+owed d (Serve a) outcome q = subst (FaultSays leastFault (readerWalk d a)) (sym q) (reader-faults d a)
 owed d (Rewrite gs) outcome q = tt
 owed d (Set number value) outcome q = tt
 
 pub sequence-faults : SequenceFaults
 unfolding IfAccepted FaultGiven AnsweredAsReader
 sequence-faults s Start h = tt
-sequence-faults s (After before event) h = λ yes. owed (before .reader) (effectBy (event .call)) (event .reply .outcome) (h .same-answer yes)
+sequence-faults s (After before event) h =
+    λ yes. owed (before .reader) (effectBy (event .call)) (event .reply .outcome) (h .same-answer yes)

@@ -1,4 +1,5 @@
 use mathlib.Core.Path.{refl}
+use native.Mathlib.Omega.{arith}
 use Rattle.mmu_c.proofs.AnswerLaws.{answer-at, answer-fault, answer-done, answer-refused, fault-room, refused-room}
 use borrow.Author.Needs.{needs}
 use Rattle.mmu_c.proofs.served_access.reply_answer.Statement.{statement}
@@ -15,8 +16,7 @@ enum-known-outcome-2 c = search needs
 
 access-answer-requires-2 : tie.Need-access-answer-requires-2
 access-answer-requires-2 c κs = (
-  fault-room _ (c .before .before .before .pre .0) _
-      (c .before .outcome2 .given .1),
+  omega (arith, fault-room _ (c .before .before .before .pre .0) _ (c .before .outcome2 .given .1)),
   c .before .before .before .pre .1,
 )
 

@@ -25,15 +25,19 @@ same-length-2 : tie.Need-same-length-2
 same-length-2 c = search needs
 
 returns-2 : tie.Need-returns-2
-returns-2 c = fault-none _ _ _ _ _ _ (c .before .before .before .before .before .book-served .ensures) (c .before .before .before .if1 .left) _ (c .before .before .fault-kind .ensures) _ (c .before .has-column .ensures) (c .if2 .taken)
+returns-2 c =
+    fault-none _ _ _ _ _ _ (c .before .before .before .before .before .book-served .ensures) (c .before .before .before .if1 .left) _
+    (c .before .before .fault-kind .ensures) _ (c .before .has-column .ensures) (c .if2 .taken)
 
 fault-column-requires : tie.Need-fault-column-requires
 fault-column-requires c κs = search needs
 
 book-requires : tie.Need-book-requires
 book-requires c κs = (
-  c .before .before .before .before .before .before .totals .given ∙ c .before .before .before .before .before .before .before .before .before .pre .0,
-  c .before .before .before .before .before .before .before .book-served .ensures .in-limit (not-false (c .before .before .before .before .before .before .before .book-served .result) (c .before .before .before .before .before .if1 .left)),
+  c .before .before .before .before .before .before .totals .given
+      ∙ c .before .before .before .before .before .before .before .before .before .pre .0,
+  c .before .before .before .before .before .before .before .book-served .ensures .in-limit
+      (not-false (c .before .before .before .before .before .before .before .book-served .result) (c .before .before .before .before .before .if1 .left)),
   column-small _ _ (c .before .fault-column .ensures),
   omega arith,
 )
@@ -42,7 +46,11 @@ same-length-3 : tie.Need-same-length-3
 same-length-3 c = search needs
 
 returns-3 : tie.Need-returns-3
-returns-3 c = fault-done _ _ _ _ _ _ (c .before .before .before .before .before .before .before .before .before .book-served .ensures) (c .before .before .before .before .before .before .before .if1 .left) _ (c .before .before .before .before .before .before .fault-kind .ensures) _ (c .before .before .before .before .before .has-column .ensures) (c .before .before .before .before .if2 .left) _ (c .before .before .before .fault-column .ensures) _ _ (c .before .book .ensures)
+returns-3 c =
+    fault-done _ _ _ _ _ _ (c .before .before .before .before .before .before .before .before .before .book-served .ensures)
+    (c .before .before .before .before .before .before .before .if1 .left) _ (c .before .before .before .before .before .before .fault-kind .ensures) _
+    (c .before .before .before .before .before .has-column .ensures) (c .before .before .before .before .if2 .left) _
+    (c .before .before .before .fault-column .ensures) _ _ (c .before .book .ensures)
 
 pub book-fault-spec : {M : Type 1} → statement M
 book-fault-spec =
