@@ -3,6 +3,7 @@
 mod outcome;
 pub mod record;
 pub mod script;
+pub mod stops;
 pub mod written;
 
 use crate::fault;
@@ -35,6 +36,9 @@ const MOST_RECORDS: usize = 450;
 pub fn compare(program: &str, seed: u64, traces: usize) -> Result<bool, String> {
     let mut random = Random::new(seed);
     let mut comparison = Comparison::new(program);
+    for trace in stops::traces(&mut random) {
+        comparison.put(&trace)?;
+    }
     for records in LENGTHS {
         comparison.put(&script::trace(&mut random, records, 0))?;
         let piece = 1 + random.below(RECORD_BYTES - 1);
