@@ -24,7 +24,7 @@ fn two_leaves() -> Vec<u32> {
     words
 }
 
-/// A user's write, which no mode of a fault's walk depends on.
+/// A user's write: no mode of the access matters to its walk.
 fn access() -> Access {
     Access {
         address: PAGE * 8192 + 5,
