@@ -2,9 +2,10 @@
 
 use crate::difference::{self, Found};
 use crate::exchange::{Exchange, Question, Report};
-use crate::expected;
+use crate::expected::{self, FAULT};
+use crate::fault;
 use crate::outcome::{self, Runs};
-use crate::protocol::{Answer, Request};
+use crate::protocol::{Answer, Call, Request};
 use crate::put::Put;
 use crate::witness::Witness;
 use std::cell::RefCell;
@@ -104,6 +105,9 @@ impl Asked {
     /// What the judges say of an answer, each of their points counted by itself.
     fn judge_points(&self, got: &Answer, report: &mut Report) {
         let mut points = Points::new();
+        if let (Call::Served(_), [FAULT, value, ..]) = (self.request.call, got.words) {
+            points.push((fault::POSSIBLE, fault::is_possible(value)));
+        }
         if let Some(witness) = &self.judges.witness {
             points.extend(witness.points(&self.request, got));
         }
@@ -114,6 +118,7 @@ impl Asked {
             report.add(point, holds);
             if !holds && report.may_print() {
                 println!("at case {}: {:X?}", report.cases, self.request.call);
+                println!("  program answers {:X?}", got.words);
                 println!("  does not hold: {point}");
             }
         }

@@ -16,6 +16,7 @@ mod comparison;
 mod difference;
 mod exchange;
 mod expected;
+mod fault;
 mod host;
 mod outcome;
 mod pools;

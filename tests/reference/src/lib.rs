@@ -1,6 +1,6 @@
 //! The memory unit of the ETRAX 100LX as document 01 tells it, with what requests of document 02
-//! ask for: the register read that gives the entry at SELECT, the report over traces, and the heap
-//! of frames above the unit.
+//! ask for: the register read that gives the entry at SELECT, the report over traces, the heap of
+//! frames above the unit, and the fault that says where the walk stopped.
 //!
 //! Each module is one heading of the paper, and quotes its words where a
 //! sentence decides.
@@ -8,6 +8,7 @@
 mod account;
 mod address;
 mod entry;
+mod fault;
 mod guarded;
 pub mod heap;
 pub mod host;
@@ -48,7 +49,7 @@ pub use registers::{fits, Registers, FIELDS, FIELD_BITS, FIELD_NAMES, SELECT, TL
 pub use reply::{Outcome, Reply};
 pub use run::{InBytes, Run, RunMut};
 pub use search::{hits, is_hit, Hits};
-pub use served::{served_access, FAULT_ABSENT, FAULT_BROKEN};
+pub use served::served_access;
 pub use start::start;
 pub use store::table_store;
 pub use sweep::{is_kept, leaf_of, sweep, vpn_of};

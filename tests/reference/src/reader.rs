@@ -2,10 +2,11 @@
 //!
 //! It "is fed each call's arguments, never an answer; registers and runs handed in serve it only
 //! to decide a refusal". Shared with the served access, the store and the guarded setting are the
-//! walk, the fields of a leaf, the register fields with their widths and the arguments of an access.
-//! The refusals, the linear rule, the exceptions, the address and the writes are said here once
-//! more, by themselves.
+//! walk, the fields of a leaf, the value of a walk's fault, the register fields with their widths
+//! and the arguments of an access. The refusals, the linear rule, the exceptions, the address and
+//! the writes are said here once more, by themselves.
 
+use crate::fault;
 use crate::leaf::Leaf;
 use crate::raw::Access;
 use crate::registers::{Registers, FIELD_BITS};
@@ -120,7 +121,7 @@ impl Reader {
 
     /// "The answer without a buffer: enable off gives the virtual address; then the linear rule;
     /// then the walk; absent, broken, and valid 0 without inv_exc give 16, 32, 8; else the
-    /// exceptions of the leaf, or its address."
+    /// exceptions of the leaf, or its address." The 16 and the 32 carry where the walk stopped.
     fn answer(&self, access: Access) -> Said {
         if !self.is_enabled() {
             return Said::At(access.address);
@@ -129,8 +130,8 @@ impl Reader {
             return Said::At(base * 0x1000_0000 + access.address % 0x1000_0000);
         }
         let leaf = match self.walk(access) {
-            Walk::Absent(_) => return Said::Fault(16),
-            Walk::Broken(..) => return Said::Fault(32),
+            Walk::Absent(word) => return Said::Fault(fault::absent(word)),
+            Walk::Broken(word, _) => return Said::Fault(fault::broken(word)),
             Walk::Leaf(decided) => Leaf::from_word(decided),
         };
         if !leaf.valid && !self.inv_exc() {

@@ -1,6 +1,7 @@
 //! The served access: try, walk, load, try again.
 
 use crate::address::vpn;
+use crate::fault;
 use crate::leaf::Leaf;
 use crate::load::load;
 use crate::raw::{accepted_access, Access, RawAnswer, EXCEPTION_MISS};
@@ -11,9 +12,6 @@ use crate::registers::Registers;
 use crate::reply::{Outcome, Reply};
 use crate::run::{Run, RunMut};
 use crate::walk::{walk, Walk};
-
-pub const FAULT_ABSENT: u32 = 16;
-pub const FAULT_BROKEN: u32 = 32;
 
 /// Refusals 1 to 5 in this order. "Registers end as these steps leave them."
 pub fn served_access(
@@ -40,8 +38,8 @@ pub fn serve(
         return reply(final_outcome(first), 0, registers);
     }
     match walk(words, registers.context, vpn(access.address)) {
-        Walk::Absent(_) => reply(Outcome::Fault(FAULT_ABSENT), 0, registers),
-        Walk::Broken(..) => reply(Outcome::Fault(FAULT_BROKEN), 0, registers),
+        Walk::Absent(word) => reply(Outcome::Fault(fault::absent(word)), 0, registers),
+        Walk::Broken(word, _) => reply(Outcome::Fault(fault::broken(word)), 0, registers),
         Walk::Leaf(decided) => {
             let leaf = Leaf::from_word(decided);
             let vpn = vpn(access.address);

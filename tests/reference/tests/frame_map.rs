@@ -102,7 +102,7 @@ fn a_root_or_directory_word_may_be_mapped_over() {
         (Outcome::Done(1), 0x150)
     );
     assert_eq!(unit.words[512], 0x8000_0150);
-    assert_eq!(unit.access(read(PAGE, 0)), (Outcome::Fault(32), 0));
+    assert_eq!(unit.access(read(PAGE, 0)), (Outcome::Fault(0x220), 0));
     assert_eq!(
         map_at(&mut unit, &mut pool, ID as usize, 0),
         (Outcome::Done(0), 0x151)

@@ -80,7 +80,7 @@ fn a_miss_is_loaded_and_the_registers_and_the_slot_are_written() {
     assert_eq!(bytes.store(Unit::own(PAGE) as u32, 0x0102_0304), 1);
     let word = 4 * Unit::own(PAGE);
     assert_eq!(bytes.tables[word..word + 4], [1, 2, 3, 4]);
-    assert_eq!(bytes.served(ADDRESS, 1), 0x0040_0010_0000_0000);
+    assert_eq!(bytes.served(ADDRESS, 1), 0x0040_0310_0000_0000);
 }
 
 #[test]

@@ -38,7 +38,7 @@ fn hear(reader: &mut Reader, access: Access) -> Said {
 #[test]
 fn the_answer_without_a_buffer() {
     let mut reader = reader();
-    assert_eq!(hear(&mut reader, read(PAGE, 0)), Said::Fault(16));
+    assert_eq!(hear(&mut reader, read(PAGE, 0)), Said::Fault(0x310));
     store(&mut reader, Unit::own(PAGE), PRESENT | 7);
     assert_eq!(hear(&mut reader, read(PAGE, 0)), Said::Fault(8));
     set(&mut reader, 1, 4);
@@ -53,10 +53,10 @@ fn the_answer_without_a_buffer() {
     };
     assert_eq!(hear(&mut reader, user_write), Said::Fault(3));
     store(&mut reader, GLOBAL_ROOT, PRESENT);
-    assert_eq!(hear(&mut reader, user_write), Said::Fault(32));
+    assert_eq!(hear(&mut reader, user_write), Said::Fault(0x1120));
     set(&mut reader, 0, 1);
     set(&mut reader, 3, 0xC);
-    assert_eq!(hear(&mut reader, user_write), Said::Fault(32));
+    assert_eq!(hear(&mut reader, user_write), Said::Fault(0x1120));
     let address = 0xC000_0000 + PAGE * 8192;
     assert_eq!(hear(&mut reader, read(PAGE, 0)), Said::At(address));
     set(&mut reader, 2, 0);

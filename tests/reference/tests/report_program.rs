@@ -74,6 +74,13 @@ fn the_worked_example() {
 }
 
 #[test]
+fn the_example_s_lines() {
+    let report = include_bytes!("../../../examples/report.trace");
+    let expected = include_str!("../../../examples/report.lines");
+    assert_eq!([text(0, WORKED), text(1, report)].concat(), expected);
+}
+
+#[test]
 fn empty_files_and_last_pieces_give_zeros() {
     for length in 0..8 {
         assert_eq!(text(0, &vec![0; length]), lines(0, &[]), "{length}");

@@ -89,7 +89,7 @@ fn the_sample_trace_up_to_its_malformed_record() {
         (setting(2, 1), Outcome::Done(0), 0),
         (access(0x2ABC, true, false, 2), Outcome::At(0x0024_6ABC), 1),
         (access(0x2ABC, true, true, 0), Outcome::At(0x0024_6ABC), 0),
-        (access(0x4000, true, false, 1), Outcome::Fault(16), 0),
+        (access(0x4000, true, false, 1), Outcome::Fault(0x310), 0),
         (store(1025, 0), Outcome::Done(1), 0),
     ];
     let mut run = Run::begin();

@@ -58,7 +58,7 @@ fn a_second_try_that_misses_selects_by_the_draw() {
 
 #[test]
 fn absent_and_broken_leave_the_registers_of_the_first_try() {
-    for (word, fault) in [(0x7FFF_FFFF, 16), (PRESENT, 32)] {
+    for (word, fault) in [(0x7FFF_FFFF, 0x210), (PRESENT, 0x220)] {
         let mut unit = Unit::new();
         unit.words[512] = word;
         let buffer = unit.buffer.clone();
@@ -74,7 +74,7 @@ fn a_broken_global_tree_hides_an_own_leaf() {
     let mut unit = Unit::new();
     unit.words[Unit::own(PAGE)] = PRESENT | VALID | 7;
     unit.words[2048] = PRESENT | 4;
-    assert_eq!(unit.access(read(PAGE, 0)), (Outcome::Fault(32), 0));
+    assert_eq!(unit.access(read(PAGE, 0)), (Outcome::Fault(0x1220), 0));
 }
 
 #[test]

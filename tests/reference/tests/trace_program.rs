@@ -35,7 +35,7 @@ const EXAMPLE_TEXT: &str = "\
 4 done 00000000 0
 5 at 00246ABC 1
 6 at 00246ABC 0
-7 fault 00000010 0
+7 fault 00000310 0
 8 done 00000001 0
 9 refused 00000008 0
 ";
@@ -43,6 +43,27 @@ const EXAMPLE_TEXT: &str = "\
 #[test]
 fn the_worked_example_byte_for_byte() {
     assert_eq!(text(&trace(&EXAMPLE)), EXAMPLE_TEXT);
+}
+
+#[test]
+fn the_examples_print_their_lines() {
+    let examples = [
+        (
+            &include_bytes!("../../../examples/worked.trace")[..],
+            include_str!("../../../examples/worked.lines"),
+        ),
+        (
+            include_bytes!("../../../examples/aged.trace"),
+            include_str!("../../../examples/aged.lines"),
+        ),
+        (
+            include_bytes!("../../../examples/stops.trace"),
+            include_str!("../../../examples/stops.lines"),
+        ),
+    ];
+    for (trace, lines) in examples {
+        assert_eq!(text(trace), lines);
+    }
 }
 
 #[test]

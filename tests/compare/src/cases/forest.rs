@@ -1,7 +1,7 @@
 //! Table runs in which walks end in chosen ways.
 
 use crate::random::Random;
-use reference::WhyBroken;
+use reference::{WhyBroken, GLOBAL_ROOT};
 
 /// How the walk of one tree is to end.
 #[derive(Clone, Copy, Debug)]
@@ -33,6 +33,20 @@ pub fn endings() -> Vec<Ending> {
     endings
 }
 
+/// Each ending of the global tree with each of the own tree, but for those that find a leaf.
+pub fn stops() -> Vec<(Ending, Ending)> {
+    let mut stops = Vec::new();
+    for global in endings() {
+        stops.extend(endings().into_iter().map(|own| (global, own)));
+    }
+    stops.retain(|(global, own)| match global {
+        Ending::Leaf => false,
+        Ending::BrokenRoot(_) | Ending::BrokenDirectory(_) => true,
+        _ => !matches!(own, Ending::Leaf),
+    });
+    stops
+}
+
 pub const PRESENT: u32 = 1 << 31;
 pub const DIRECTORY_WORDS: usize = 512;
 pub const TABLE_WORDS: usize = 1024;
@@ -51,27 +65,54 @@ impl Forest {
         Forest { words }
     }
 
+    /// A run of at least 4,096 words in which the page's walks of the global tree and of the
+    /// context's end as asked. The two trees share no word, so that each does.
+    pub fn of_stop(
+        random: &mut Random,
+        length: usize,
+        (context, page): (u32, u32),
+        (global, own): (Ending, Ending),
+    ) -> Forest {
+        let mut forest = Forest {
+            words: vec![0; length],
+        };
+        forest.plant_through(random, (1, 2), GLOBAL_ROOT, page, global);
+        forest.plant_through(random, (2, 3), context as usize, page, own);
+        forest
+    }
+
     /// Makes the walk of the page in the tree of this root end as asked, if the run has room.
     pub fn plant(&mut self, random: &mut Random, root: usize, page: u32, ending: Ending) {
-        let directory = match ending {
+        let directory = number_inside(random, self.words.len(), DIRECTORY_WORDS);
+        let table = number_inside(random, self.words.len(), TABLE_WORDS);
+        self.plant_through(random, (directory, table), root, page, ending);
+    }
+
+    /// The same through this directory and this table, as far as the walk goes.
+    fn plant_through(
+        &mut self,
+        random: &mut Random,
+        (directory, table): (usize, usize),
+        root: usize,
+        page: u32,
+        ending: Ending,
+    ) {
+        let length = self.words.len();
+        match ending {
             Ending::AbsentRoot => return self.set(root, absent_word(random)),
             Ending::BrokenRoot(why) => {
-                let word = broken_word(random, self.words.len(), why, DIRECTORY_WORDS);
-                return self.set(root, word);
+                return self.set(root, broken_word(random, length, why, DIRECTORY_WORDS));
             }
-            _ => number_inside(random, self.words.len(), DIRECTORY_WORDS),
-        };
-        self.set(root, PRESENT | directory as u32);
+            _ => self.set(root, PRESENT | directory as u32),
+        }
         let place = DIRECTORY_WORDS * directory + (page / 1024) as usize;
-        let table = match ending {
+        match ending {
             Ending::AbsentDirectory => return self.set(place, absent_word(random)),
             Ending::BrokenDirectory(why) => {
-                let word = broken_word(random, self.words.len(), why, TABLE_WORDS);
-                return self.set(place, word);
+                return self.set(place, broken_word(random, length, why, TABLE_WORDS));
             }
-            _ => number_inside(random, self.words.len(), TABLE_WORDS),
-        };
-        self.set(place, PRESENT | table as u32);
+            _ => self.set(place, PRESENT | table as u32),
+        }
         let leaf = match ending {
             Ending::AbsentLeaf => absent_word(random),
             _ => PRESENT | random.bits(31),

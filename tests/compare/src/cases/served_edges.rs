@@ -1,6 +1,6 @@
 //! Served accesses made on purpose.
 
-use super::forest::{endings, Ending, Forest};
+use super::forest::{endings, stops, Ending, Forest};
 use super::served::{put_not_valid, request};
 use super::tables::ask_for_tables;
 use super::{raw, spoil, state, TOO_LARGE};
@@ -13,6 +13,7 @@ pub fn put(comparison: &mut dyn Put, random: &mut Random) {
     refusals(comparison, random);
     grounds_together(comparison, random);
     walks(comparison, random);
+    walks_apart(comparison, random);
     leaves(comparison, random);
     matching_slots(comparison, random);
     several_hits(comparison, random);
@@ -117,6 +118,20 @@ fn walks(comparison: &mut dyn Put, random: &mut Random) {
                 walks_ending(comparison, random, length, (global, own));
             }
         }
+    }
+}
+
+/// Each way in which a walk stops, in trees that share no word.
+fn walks_apart(comparison: &mut dyn Put, random: &mut Random) {
+    for endings in stops() {
+        let (context, page) = (random.pick(&[0, 62, 5, 31]), random.bits(19));
+        let length = random.pick(&[4096, 5120, 16384]);
+        let forest = Forest::of_stop(random, length, (context, page), endings);
+        let registers = enabled(random, context);
+        let draw = random.bits(2);
+        let access = access(random, page, draw);
+        let buffer = state::empty_slots();
+        comparison.put(request(registers, buffer, access, forest.words));
     }
 }
 

@@ -4,6 +4,7 @@ use super::case::{Answer, Case};
 use super::{difference, layout, outcome};
 use crate::exchange::{Exchange, Question, Report};
 use crate::expected;
+use crate::fault;
 use crate::outcome::{self as numbers, Runs};
 use crate::protocol::{Call, Request};
 use crate::put::Put;
@@ -32,12 +33,31 @@ impl Question for Asked {
         for outcome in &self.outcomes {
             report.add(outcome, agreed);
         }
+        if let Some(got) = &got {
+            self.judge_fault(got, report);
+        }
         if agreed || !report.may_print() {
             return;
         }
         match got {
             Some(got) => difference::print(report.cases, &self.case, &self.expected, &got),
             None => println!("no answer at case {}: {:X?}", report.cases, self.case.call),
+        }
+    }
+}
+
+impl Asked {
+    /// The fault of the program under test, by itself.
+    fn judge_fault(&self, got: &Answer, report: &mut Report) {
+        let Some(value) = layout::fault_of(self.case.call, got.number) else {
+            return;
+        };
+        let holds = fault::is_possible(value);
+        report.add(fault::POSSIBLE, holds);
+        if !holds && report.may_print() {
+            println!("at case {}: {:X?}", report.cases, self.case.call);
+            println!("  program answers {:016X}", got.number);
+            println!("  does not hold: {}", fault::POSSIBLE);
         }
     }
 }

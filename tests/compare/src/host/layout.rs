@@ -1,4 +1,5 @@
-//! The 64-bit answer of a C call, made from the answer that the same call on numbers gives.
+//! The 64-bit answer of a C call, made from the answer that the same call on numbers gives, and the
+//! fault that a served access's answer tells of.
 
 use crate::expected::{AT, DONE, FAULT};
 use crate::protocol::{Answer, Call};
@@ -19,5 +20,41 @@ pub fn number_of(call: Call, answer: &Answer) -> u64 {
             DONE => value,
             _ => value << 56,
         },
+    }
+}
+
+/// The fault's value in an answer of the program under test, where the call is a served access and
+/// the answer tells of a fault.
+pub fn fault_of(call: Call, number: u64) -> Option<u32> {
+    let is_fault = number >> 54 == 1;
+    match call {
+        Call::Served(_) if is_fault => Some((number >> 32) as u32 & 0xFFFF),
+        _ => None,
+    }
+}
+
+#[cfg(test)]
+mod tests {
+    use super::*;
+    use reference::Access;
+
+    #[test]
+    fn a_fault_is_told_of_by_bit_54_of_a_served_access_that_is_not_refused() {
+        let access = Access {
+            address: 0,
+            user: false,
+            write: false,
+            draw: 0,
+        };
+        for (number, fault) in [
+            (0x0040_1220_0000_0000, Some(0x1220)),
+            (0x0041_0008_0000_0000, Some(8)),
+            (0x0040_F310_0000_0000, Some(0xF310)),
+            (0x0011_0000_0000_2ABC, None),
+            (0x0300_0000_0000_0000, None),
+        ] {
+            assert_eq!(fault_of(Call::Served(access), number), fault, "{number:X}");
+            assert_eq!(fault_of(Call::Raw(access), number), None);
+        }
     }
 }

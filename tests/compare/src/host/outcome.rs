@@ -2,6 +2,7 @@
 
 use super::case::{Answer, Case};
 use super::lengths::{BUFFERS, REGISTERS, TABLES};
+use crate::fault;
 use crate::outcome::{raw, served, store};
 use crate::protocol::Call;
 use reference::host::{BUFFER_BYTES, MOST_TABLE_BYTES, REGISTER_BYTES};
@@ -40,7 +41,7 @@ pub fn all() -> Vec<String> {
     for call in [RAW, SERVED] {
         all.extend([true, false].map(|changed| registers_change(call, changed)));
     }
-    all.extend([beside(), high_bits_stay()]);
+    all.extend([beside(), high_bits_stay(), fault::POSSIBLE.to_string()]);
     all
 }
 

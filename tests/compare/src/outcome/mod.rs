@@ -13,7 +13,7 @@ pub mod walk;
 mod write;
 
 use crate::protocol::{Answer, Call, Request};
-use crate::{read_back, witness};
+use crate::{fault, read_back, witness};
 use reference::Registers;
 use served::Served;
 
@@ -26,7 +26,7 @@ pub struct Runs<'a> {
 
 /// Every outcome that has to happen.
 pub fn all() -> Vec<String> {
-    [
+    let mut all = [
         start::all(),
         raw::all(),
         write::all(),
@@ -39,7 +39,9 @@ pub fn all() -> Vec<String> {
         witness::all(),
         read_back::all(),
     ]
-    .concat()
+    .concat();
+    all.push(fault::POSSIBLE.to_string());
+    all
 }
 
 pub fn of(request: &Request, runs: Runs, expected: &Answer) -> Vec<String> {

@@ -1,4 +1,4 @@
-//! Files that are short or odd, calls of none and of few, and totals with many digits.
+//! Files that are short or odd or of one walk, calls of none and of few, and totals with many digits.
 
 use super::case::{Case, CountBy};
 use super::comparison::Comparison;
@@ -6,6 +6,7 @@ use super::outcome::{NO_ARGUMENT, TWICE};
 use super::{limit, script};
 use crate::random::Random;
 use crate::traces::script::{malformed, refused};
+use crate::traces::stops;
 use reference::trace::RECORD_BYTES;
 
 const RECORDS: usize = 60;
@@ -36,6 +37,7 @@ pub fn put(comparison: &mut Comparison, random: &mut Random) -> Result<(), Strin
         comparison.put(vec![only_refused, short(script::trace(random, RECORDS, 0))])?;
     }
     twice(comparison, random)?;
+    comparison.put(stops::traces(random).into_iter().map(short).collect())?;
     for (leaves, cycles) in SEE_SAWS {
         let trace = limit::see_saw(random, leaves, cycles);
         comparison.put(vec![Case::of(trace, CountBy::Counts)])?;

@@ -16,7 +16,7 @@ use comparison::Comparison;
 use reference::trace::RECORD_BYTES;
 
 /// How many files are put in all, about.
-pub const FILES: usize = 700;
+pub const FILES: usize = 830;
 
 /// A call has up to so many files, and one call has so many that their numbers have three digits.
 const FILES_IN_A_CALL: usize = 12;

@@ -3,8 +3,10 @@
 mod outcome;
 pub mod record;
 pub mod script;
+pub mod stops;
 pub mod written;
 
+use crate::fault;
 use crate::program::Program;
 use crate::random::Random;
 use crate::tally::Tally;
@@ -34,6 +36,9 @@ const MOST_RECORDS: usize = 450;
 pub fn compare(program: &str, seed: u64, traces: usize) -> Result<bool, String> {
     let mut random = Random::new(seed);
     let mut comparison = Comparison::new(program);
+    for trace in stops::traces(&mut random) {
+        comparison.put(&trace)?;
+    }
     for records in LENGTHS {
         comparison.put(&script::trace(&mut random, records, 0))?;
         let piece = 1 + random.below(RECORD_BYTES - 1);
@@ -68,7 +73,7 @@ struct Comparison<'a> {
 
 impl Comparison<'_> {
     fn new(program: &str) -> Comparison<'_> {
-        let of_runs = [AS_A_WHOLE, IN_PIECES].map(String::from);
+        let of_runs = [AS_A_WHOLE, IN_PIECES, fault::POSSIBLE].map(String::from);
         let outcomes = outcome::all().into_iter().chain(of_runs);
         Comparison {
             program,
@@ -119,9 +124,26 @@ impl Comparison<'_> {
             }
         }
         self.records += records.len();
+        self.judge_faults(got);
         if !agreed && self.printed < MOST_PRINTED {
             self.printed += 1;
             self.print_first_difference(trace, expected, got);
+        }
+    }
+
+    /// The faults of the program under test, by themselves.
+    fn judge_faults(&mut self, got: &[u8]) {
+        for line in got.split_inclusive(|&byte| byte == b'\n') {
+            let Some(holds) = fault_is_possible(line) else {
+                continue;
+            };
+            self.tally.add(fault::POSSIBLE, holds);
+            if !holds && self.printed < MOST_PRINTED {
+                self.printed += 1;
+                let line = String::from_utf8_lossy(line);
+                println!("in trace {}: {line:?}", self.traces);
+                println!("  does not hold: {}", fault::POSSIBLE);
+            }
         }
     }
 
@@ -177,9 +199,34 @@ fn first_line(text: &[u8]) -> &[u8] {
     }
 }
 
+/// Whether there is a fault of the line's value; none for a line that tells of no fault.
+fn fault_is_possible(line: &[u8]) -> Option<bool> {
+    let mut words = line.split(|&byte| byte == b' ').skip(1);
+    let (word, digits) = (words.next()?, words.next()?);
+    let value = || u32::from_str_radix(std::str::from_utf8(digits).ok()?, 16).ok();
+    (word == b"fault").then(|| value().is_some_and(fault::is_possible))
+}
+
 #[cfg(test)]
 mod tests {
     use super::*;
+
+    #[test]
+    fn the_faults_of_lines_are_judged_by_their_value() {
+        for (line, expected) in [
+            ("7 fault 00000310 0\n", Some(true)),
+            ("12 fault 00000008 1\n", Some(true)),
+            ("7 fault 00000010 0\n", Some(false)),
+            ("7 fault 00001110 0\n", Some(false)),
+            ("7 fault 00000308 1", Some(false)),
+            ("7 fault 0000031G 0\n", Some(false)),
+            ("7 at 00000010 0\n", None),
+            ("7 fault\n", None),
+            ("\n", None),
+        ] {
+            assert_eq!(fault_is_possible(line.as_bytes()), expected, "{line:?}");
+        }
+    }
 
     /// Whether each of the expected lines agrees.
     fn agreement(expected: &str, got: &str) -> Vec<bool> {

@@ -1,9 +1,10 @@
 //! The fourteen totals of one identification.
 
+use crate::fault;
 use crate::refusal::Refusal;
 use crate::reply::Outcome;
 
-/// The fault values that have a total of their own.
+/// The kinds of fault that have a total of their own.
 pub const FAULTS: [u32; 10] = [1, 2, 3, 4, 5, 6, 7, 8, 16, 32];
 
 /// How many totals there are.
@@ -36,12 +37,13 @@ impl Totals {
         columns
     }
 
-    /// An accepted access. A fault with value 0, several hits, has no total.
+    /// An accepted access. A fault counts by its kind, wherever a walk stopped; one with value 0,
+    /// several hits, has no total.
     pub fn book_access(&mut self, outcome: Outcome, loads: u32) -> Result<(), Refusal> {
         add(&mut self.served, 1)?;
         add(&mut self.loads, i64::from(loads))?;
         if let Outcome::Fault(value) = outcome {
-            if let Some(place) = FAULTS.iter().position(|&fault| fault == value) {
+            if let Some(place) = FAULTS.iter().position(|&kind| kind == fault::kind(value)) {
                 add(&mut self.faults[place], 1)?;
             }
         }
@@ -82,7 +84,7 @@ mod tests {
     #[test]
     fn each_total_may_reach_the_limit_and_not_pass_it() {
         let mut totals = below_the_limit();
-        assert_eq!(totals.book_access(Outcome::Fault(16), 1), Ok(()));
+        assert_eq!(totals.book_access(Outcome::Fault(0x310), 1), Ok(()));
         assert_eq!(totals.book_store(1, 1), Ok(()));
         let mut expected = [LIMIT - 1; COLUMNS];
         for column in [0, 1, 10, 12, 13] {

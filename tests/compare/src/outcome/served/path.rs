@@ -2,6 +2,7 @@
 
 use super::Served;
 use crate::expected::{AT, FAULT};
+use crate::fault;
 use crate::outcome::walk::name;
 use reference::*;
 
@@ -27,6 +28,9 @@ pub fn all(call: &str) -> Vec<String> {
     }
     for path in endings_without_leaf(&LEVELS) {
         add(&path);
+    }
+    for value in fault::OF_WALKS {
+        add(&fault::name(value));
     }
     for draw in 0..4 {
         add(&to_the_draws_slot(draw));
@@ -100,7 +104,10 @@ pub fn of(call: &str, served: &Served) -> Vec<String> {
             }
         }
         Translation::SeveralHits => {}
-        Translation::Miss => paths.extend(of_miss(served)),
+        Translation::Miss => {
+            paths.extend(of_miss(served));
+            paths.extend(fault_without_load(served));
+        }
     }
     paths
         .into_iter()
@@ -121,6 +128,14 @@ pub fn of_miss(served: &Served) -> Vec<String> {
         (Walk::Absent(_), Walk::Broken(word, _)) => vec![broken(word.level, Tree::Own)],
         (Walk::Absent(global), Walk::Absent(own)) => vec![absent(own.level, global.level)],
         (Walk::Leaf(leaf), _) | (Walk::Absent(_), Walk::Leaf(leaf)) => of_load(served, leaf),
+    }
+}
+
+/// The whole value of a fault where nothing was loaded.
+fn fault_without_load(served: &Served) -> Option<String> {
+    match served.expected.words {
+        [FAULT, value, 0, _] => Some(fault::name(value)),
+        _ => None,
     }
 }
 

@@ -8,6 +8,7 @@ mod shape;
 mod take;
 
 use super::{fill, history, sequence};
+use crate::fault;
 use crate::outcome::Runs;
 use crate::protocol::{Answer, Call, PoolCall, Request};
 use crate::witness;
@@ -32,7 +33,8 @@ pub fn all() -> Vec<String> {
         witness::all(),
     ]
     .concat();
-    let single = [BESIDE, ON_REFUSED, TABLES, witness::MAP_EMPTIED];
+    let points = [witness::MAP_EMPTIED, fault::POSSIBLE];
+    let single = [BESIDE, ON_REFUSED, TABLES].into_iter().chain(points);
     all.extend(single.map(String::from));
     all
 }

@@ -1,5 +1,6 @@
 //! Outcomes of an access that the report books.
 
+use crate::fault;
 use crate::traces::record::{Record, USER};
 use reference::{segment, Outcome, Registers};
 
@@ -12,7 +13,8 @@ pub fn all() -> Vec<String> {
     for value in 1..=7 {
         all.extend([0, 1].map(|loads| fault(value, loads)));
     }
-    all.extend([fault(8, 1), fault(16, 0), fault(32, 0)]);
+    all.push(fault(8, 1));
+    all.extend(fault::OF_WALKS.map(|value| fault(value, 0)));
     all
 }
 
@@ -33,5 +35,5 @@ fn at(loads: u32) -> String {
 }
 
 fn fault(value: u32, loads: u32) -> String {
-    format!("access booked, fault {value}, loads {loads}")
+    format!("access booked, {}, loads {loads}", fault::name(value))
 }

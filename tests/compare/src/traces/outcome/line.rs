@@ -1,5 +1,6 @@
 //! Outcomes of a line's text.
 
+use crate::fault;
 use crate::outcome::store::{empties, EMPTIED};
 use reference::trace::Line;
 use reference::Outcome;
@@ -12,7 +13,8 @@ pub fn all() -> Vec<String> {
     for value in 1..=7 {
         all.extend([0, 1].map(|loads| fault(value, loads)));
     }
-    all.extend([fault(8, 1), fault(16, 0), fault(32, 0)]);
+    all.push(fault(8, 1));
+    all.extend(fault::OF_WALKS.map(|value| fault(value, 0)));
     all.extend(EMPTIED.map(done));
     all.extend([5, 6, 7, 8].map(refused));
     all.extend([0, u32::MAX].map(hex));
@@ -45,7 +47,7 @@ fn at(loads: u32) -> String {
 }
 
 fn fault(value: u32, loads: u32) -> String {
-    format!("line fault {value}, loads {loads}")
+    format!("line {}, loads {loads}", fault::name(value))
 }
 
 fn done(emptied: u32) -> String {
