@@ -43,7 +43,7 @@ stops =
     -- broken in the global tree, whatever the own tree has
     ++ bothSay globalBroken 5 7 0x2ABC 0x1120
     ++ bothSay globalDirectoryBroken 5 7 0x2ABC 0x1220
-    -- the word that decided, and not the lowest that was read: the global tree ends at a leaf, the own one at the root
+    -- the word that decided, and not the deepest that was read: the global tree stops at level 3, the own one at level 1
     ++ bothSay globalLeafAbsent 4 7 0x2ABC 0x110
     ++ bothSay shared 4 7 0x4ABC 0x110
     ++ bothSay (set globalLeafAbsent 5 0x80000000) 5 7 0x2ABC 0x120

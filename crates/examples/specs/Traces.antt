@@ -72,6 +72,6 @@ traces =
     ∷ (commandOf 0x3200000000000007 gives Malformed)
     -- lines: decimal numbers of one and of twenty digits, capital hex digits, loads in decimal
     ∷ (lineOf 18446744073709551615 (answered zeroRegisters (At 0xDEADBEEF) 10) gives ascii "18446744073709551615 at DEADBEEF 10\n")
-    ∷ (lineOf 1000000 (answered zeroRegisters (Fault 0x1220) 1) gives ascii "1000000 fault 00001220 1\n")
+    ∷ (lineOf 1000000 (answered zeroRegisters (Fault 0x1220) 0) gives ascii "1000000 fault 00001220 0\n")
     ∷ (lineOf 9 (refused zeroRegisters 5) gives ascii "9 refused 00000005 0\n")
     ∷ []

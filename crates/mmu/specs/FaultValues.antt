@@ -1,24 +1,26 @@
 -- The fault values of served accesses.
 use Prim.Native.Nat.{ℕ, _≤_}
 use mathlib.Core.Path.{_≡_}
-use mathlib.Core.Logic.{_⊎_}
-use types.Run.{OneOf}
+use mathlib.Core.Bool.{true, false}
 use Rattle.registers.specs.declared.Access.{Access}
 use Rattle.registers.specs.declared.Outcome.{Outcome}
 use Rattle.registers.specs.declared.Outcome.the-variants.{At, Fault, Done, Refused}
-use Rattle.page_table.specs.Faults.{walkFault, stopFaults}
-use Rattle.page_table.specs.declared.Walk.{Walk}
+use Rattle.page_table.specs.Faults.{PossibleFault}
 use Rattle.store.specs.Machine.{Machine}
-use Rattle.mmu.specs.ServedAccess.{walkFor, servedReply}
+use Rattle.mmu.specs.ServedAccess.{missed, firstTry, walkFor, servedReply}
 
--- A fault of an access whose walk is this one: an exception's value, from the least one to 8, or the walk's own, which is then one of the
--- seven that say where it stopped.
-unfoldable pub FaultSays : (least : ℕ) (found : Walk) → Outcome → Type 0
-FaultSays least found (At address) = Unit {0}
-FaultSays least found (Fault value) = ((least ≤ value) × (value ≤ 8)) ⊎ ((value ≡ walkFault found) × OneOf stopFaults value)
-FaultSays least found (Done emptied) = Unit {0}
-FaultSays least found (Refused number) = Unit {0}
+-- what is asserted of an outcome where it is a fault
+unfoldable pub IfFault : ((value : ℕ) → Type 0) → Outcome → Type 0
+IfFault P (At address) = Unit {0}
+IfFault P (Fault value) = P value
+IfFault P (Done emptied) = Unit {0}
+IfFault P (Refused number) = Unit {0}
 
--- so of every served access, whatever it is handed; 0 comes of several hits
+-- Where its first try missed, an access's walk decides; else the try's exceptions are its fault, 7 at most. 0 comes of several hits.
+pub record ServedFault (m : Machine) (a : Access) (value : ℕ) : Type 0 where
+  pub on-miss : missed (firstTry m a) ≡ true → PossibleFault 0 (walkFor m a) value
+  pub no-miss : missed (firstTry m a) ≡ false → value ≤ 7
+
+-- so of every served access, whatever it is handed
 abbrev pub ServedFaults : Type 0
-ServedFaults = (m : Machine) (a : Access) → FaultSays 0 (walkFor m a) ((servedReply m a) .outcome)
+ServedFaults = (m : Machine) (a : Access) → IfFault (ServedFault m a) ((servedReply m a) .outcome)

@@ -5,3 +5,4 @@ pub mod PutBack
 pub mod RawLaws
 pub mod ServedLaws
 pub mod StoreLaws
+pub mod FaultAnswers

@@ -100,7 +100,7 @@ miss-fits (Leaf f) r b a = tried-fits _ 1 (translate-value-le _ _ a) (omega arit
 miss-fits (Absent s) r b a = (lt-ltb (16 + stopPlace s) 65536 (omega (arith, place-lt s)), omega arith)
 miss-fits (Broken s) r b a = (lt-ltb (32 + stopPlace s) 65536 (omega (arith, place-lt s)), omega arith)
 
-access-fits : (m : Machine) (a : Access) → ReplyFits (accessReply m a)
+pub access-fits : (m : Machine) (a : Access) → ReplyFits (accessReply m a)
 unfolding accessReply firstTry
 access-fits m a = by-try (missed (firstTry m a))
   where

@@ -4,3 +4,4 @@ pub mod Location
 pub mod RawAccess
 pub mod ServedAccess
 pub mod TableStore
+pub mod FaultAnswers

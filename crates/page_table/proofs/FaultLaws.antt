@@ -1,8 +1,7 @@
 -- What a walk's fault value says. Assumes nothing.
 use Prim.Native.Nat.{ℕ, zero, suc, _+_, _*_, _/_, _%_, _≤_, _<_}
-use mathlib.Core.Path.{_≡_, refl, sym, ap, _∙_, subst}
+use mathlib.Core.Path.{_≡_, refl}
 use mathlib.Core.Bool.{Bool, true, false}
-use mathlib.Core.List.{List}
 use mathlib.Core.Logic.{inl, inr}
 use native.Mathlib.Omega.{arith}
 use types.Run.{OneOf}
@@ -22,6 +21,9 @@ use Rattle.page_table.proofs.Walks.{Levelled, walk-level, absent-own}
 pub place-lt : (s : Stop) → stopPlace s < 8192
 unfolding stopPlace
 place-lt s = omega (arith, bit-le (s .global))
+
+pub place-small : (s : Stop) (r : ℕ) → r ≡ stopPlace s → r < 8192
+place-small s r e = rw e (place-lt s)
 
 pub kind-told : (kind : ℕ) (s : Stop) → kind < 256 → faultKind (kind + stopPlace s) ≡ kind
 unfolding faultKind stopPlace

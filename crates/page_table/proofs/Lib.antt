@@ -4,3 +4,4 @@ pub mod Walks
 pub mod Local
 pub mod Ends
 pub mod FaultLaws
+pub mod Stops

@@ -1,8 +1,8 @@
 -- The fault value of an access that still misses after its walk: its kind, and where the walk stopped.
-use Prim.Native.Nat.{ℕ, _+_, _*_, _%_, _^_}
+use Prim.Native.Nat.{ℕ, _+_, _*_, _%_, _^_, _≤_}
 use mathlib.Core.Path.{_≡_}
 use mathlib.Core.Bool.{Bool}
-use mathlib.Core.List.{List, [], _∷_, _++_}
+use mathlib.Core.List.{List, [], _∷_}
 use types.Run.{OneOf}
 use Rattle.runs.specs.Bits.{bits, flag, bit}
 use Rattle.page_table.specs.Walk.{walkPage}
@@ -22,7 +22,7 @@ walkFault (Leaf f) = 8
 walkFault (Absent s) = 16 + stopPlace s
 walkFault (Broken s) = 32 + stopPlace s
 
--- what a fault value says: its kind, 1 to 8, 16 or 32, and of the last two the level and the tree
+-- what a fault value says: its kind, at most 8 or 16 or 32, and of the last two the level and the tree
 unfoldable pub faultKind : (value : ℕ) → ℕ
 faultKind value = bits 7 0 value
 
@@ -45,9 +45,6 @@ absentFaults = 0x110 ∷ 0x210 ∷ 0x310 ∷ []
 abbrev pub brokenFaults : List ℕ
 brokenFaults = 0x120 ∷ 0x220 ∷ 0x1120 ∷ 0x1220 ∷ []
 
-abbrev pub stopFaults : List ℕ
-stopFaults = absentFaults ++ brokenFaults
-
 -- the fault value of a walk tells its answer, and is 8 or one of the seven
 unfoldable pub ToldByFault : Walk → Type 0
 ToldByFault (Leaf f) = walkFault (Leaf f) ≡ 8
@@ -57,3 +54,10 @@ ToldByFault (Broken s) = Tells (walkFault (Broken s)) 32 s × OneOf brokenFaults
 -- so of every walk, whatever the words
 abbrev pub WalkTold : Type 0
 WalkTold = (words : List ℕ) (id vpn : ℕ) → ToldByFault (walkPage words id vpn)
+
+-- The fault values that an access can have which this walk decides: where it found a leaf those of exceptions, the least one to 8; else the
+-- walk's own, which is one of the seven.
+unfoldable pub PossibleFault : (least : ℕ) (found : Walk) (value : ℕ) → Type 0
+PossibleFault least (Leaf f) value = (least ≤ value) × (value ≤ 8)
+PossibleFault least (Absent s) value = (value ≡ walkFault (Absent s)) × OneOf absentFaults value
+PossibleFault least (Broken s) value = (value ≡ walkFault (Broken s)) × OneOf brokenFaults value

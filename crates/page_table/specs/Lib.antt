@@ -4,3 +4,4 @@ pub mod Walk
 pub mod Faults
 pub mod Reads
 pub mod Ends
+pub mod Stops

@@ -182,7 +182,7 @@ pub fn walk_page(words: &[u32], id: u32, vpn: u32) -> Walk
 
 // Where a walk stopped, as a fault value carries it: the level in bits 8 to 11, and bit 12 for the global tree.
 fn stop_place(stop: Stop) -> u32
-    ensures { λ r. ⌜ (r ≡ stopPlace stop) × (r < 8192) ⌝ }
+    ensures { λ r. ⌜ r ≡ stopPlace stop ⌝ }
 {
     let tree = stop.global as u32;
     stop.level % 16 * 256 + tree * 4096
@@ -199,7 +199,7 @@ pub fn walk_fault(found: Walk) -> u32
     }
 }
 
-// The kind of a fault value: 1 to 8, 16 absent, 32 broken.
+// The kind of a fault value: at most 8, or 16 absent, 32 broken.
 pub fn fault_kind(value: u32) -> u32
     ensures { λ r. ⌜ r ≡ faultKind value ⌝ }
 {

@@ -7,9 +7,9 @@ use native.Mathlib.Omega.{arith}
 use lib.IntN.{pos}
 use borrow.Author.Tests.{le-leb}
 use Rattle.registers.specs.declared.Outcome.the-variants.{Fault}
-use Rattle.page_table.specs.Faults.{walkFault, faultKind}
-use Rattle.page_table.specs.declared.Stop.{Stop}
-use Rattle.page_table.specs.declared.Walk.the-variants.{Absent, Broken}
+use Rattle.page_table.specs.Faults.{walkFault, faultKind, PossibleFault}
+use Rattle.page_table.specs.declared.Walk.{Walk}
+use Rattle.page_table.specs.declared.Walk.the-variants.{Leaf, Absent, Broken}
 use Rattle.page_table.proofs.FaultLaws.{kind-told}
 use Rattle.report.specs.Totals.{Gain, SERVED, LOADS}
 use Rattle.report.specs.Gains.{gain, hasColumn, faultColumn, faultGains, accessGains}
@@ -26,6 +26,18 @@ unfolding accessGains
 kind-gains loads value kind column k h c =
     ap (λ (gains : List Gain). gain SERVED (pos 1) ∷ gain LOADS (pos loads) ∷ gains) (ap faultGains k ∙ column-gains kind column h c)
 
+low-column : (kind : ℕ) → 1 ≤ kind → kind ≤ 8 → hasColumn kind ≡ true
+unfolding hasColumn
+low-column kind low high = rw (le-leb 1 kind low, le-leb kind 8 high)
+
+has-one : (found : Walk) (value : ℕ) → PossibleFault 1 found value → hasColumn (faultKind value) ≡ true
+unfolding PossibleFault walkFault hasColumn faultKind
+has-one (Leaf f) value p =
+    let k : faultKind value ≡ value = omega (arith, p .1) in
+    ap hasColumn k ∙ low-column value (p .0) (p .1)
+has-one (Absent s) value p = ap hasColumn (ap faultKind (p .0) ∙ kind-told 16 s (omega arith))
+has-one (Broken s) value p = ap hasColumn (ap faultKind (p .0) ∙ kind-told 32 s (omega arith))
+
 pub counted-by-kind : (loads : ℕ) → CountedByKind loads
 unfolding walkFault hasColumn faultColumn faultKind
 counted-by-kind loads = record {
@@ -33,5 +45,6 @@ counted-by-kind loads = record {
   broken = λ s. kind-gains loads _ 32 11 (kind-told 32 s (omega arith)) refl refl;
   exception =
       λ value low high.
-      kind-gains loads value value (value + 1) (omega arith) (rw (le-leb 1 value low, le-leb value 8 high)) (rw (le-leb value 8 high));
+      kind-gains loads value value (value + 1) (omega arith) (low-column value low high) (rw (le-leb value 8 high));
+  possible = has-one;
 }

@@ -1,7 +1,7 @@
 -- What a call gives to the totals, in the code's words. Assumes nothing.
-use Prim.Native.Nat.{ℕ, zero, suc, _+_, _≤_, _<_}
+use Prim.Native.Nat.{ℕ, _+_, _≤_, _<_}
 use mathlib.Core.Path.{_≡_, refl, sym, ap, subst, _∙_}
-use mathlib.Core.Bool.{Bool, true, false, cond, not, _&&_, _||_}
+use mathlib.Core.Bool.{Bool, true, false, cond, not}
 use mathlib.Core.List.{List, [], _∷_}
 use native.Mathlib.Omega.{arith}
 use lib.Dec.{eqb, leb}
@@ -10,7 +10,7 @@ use borrow.Author.Tests.{leb-true, le-leb, lt-leb, eq-eqb, ne-eqb, not-true, not
 use Rattle.registers.specs.declared.Outcome.{Outcome}
 use Rattle.registers.specs.declared.Outcome.the-variants.{At, Fault, Done, Refused}
 use Rattle.page_table.specs.Faults.{faultKind}
-use Rattle.report.specs.Totals.{Gain, SERVED, LOADS, AllWithin, BookGives, BookAllGives}
+use Rattle.report.specs.Totals.{SERVED, LOADS, AllWithin, BookGives, BookAllGives}
 use Rattle.report.specs.Gains.{gain, hasColumn, faultColumn, faultGains, accessGains}
 use Rattle.report.proofs.TotalLaws.{books-none, books-one, books-then, books-stop}
 

@@ -7,7 +7,7 @@ use lib.ListN.{getD, set}
 use lib.Dec.{leb}
 use lib.IntN.{ℤ, pos, natAbs, _+ℤ_}
 
--- the columns of an identification's line: served accesses, loads, ten for the faults by their value, slots emptied, and the net change in
+-- the columns of an identification's line: served accesses, loads, ten for the faults by their kind, slots emptied, and the net change in
 -- present leaf words
 abbrev pub SERVED : ℕ
 SERVED = 0

@@ -77,7 +77,7 @@ leafAnswer ctrl a f =
     (Fault (walkFault (Leaf f)))
     (cond (eqb value 0) (At (pageAddress (leafPfn (f .word)) (a .address))) (Fault value))
 
--- absent and broken give 16 and 32
+-- absent and broken give 16 and 32, with the level and the tree at which the walk stopped
 unfoldable pub walkAnswer : Walk → (ctrl : ℕ) → Access → Outcome
 walkAnswer (Leaf f) ctrl a = leafAnswer ctrl a f
 walkAnswer (Absent s) ctrl a = Fault (walkFault (Absent s))

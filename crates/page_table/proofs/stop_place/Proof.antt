@@ -1,4 +1,3 @@
-use mathlib.Core.Path.{ap}
 use native.Mathlib.Omega.{arith}
 use Rattle.runs.proofs.Bits.{bit-byte, byte-le}
 use Rattle.page_table.specs.Faults.{stopPlace}
@@ -20,10 +19,7 @@ add-result c = omega (arith, byte-le (c .before .before .args .stop .global))
 
 returns : tie.Need-returns
 unfolding stopPlace
-returns c = (
-  omega (arith, bit-byte (c .before .before .args .stop .global)),
-  omega (arith, byte-le (c .before .before .args .stop .global)),
-)
+returns c = omega (arith, bit-byte (c .before .before .args .stop .global))
 
 pub stop-place-spec : {M : Type 1} → statement M
 stop-place-spec = tie.close (tie.spec cast-tree mul-result mul-result-2 add-result returns)
