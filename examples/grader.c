@@ -12,7 +12,7 @@
 #include "mmu.h"
 
 /* Word 5 names directory 1, whose first word names table 1; a page's leaf is at 1,024 + page. */
-enum { PROGRAM = 5, DIRECTORY = 1, TABLE = 1, PAGE = 1, FRAME = 0x123 };
+enum { PROGRAM = 5, GLOBAL_ROOT = 63, DIRECTORY = 1, TABLE = 1, PAGE = 1, FRAME = 0x123 };
 
 static const uint32_t leaf = MMU_PRESENT | MMU_VALID | MMU_WE | FRAME;
 static const uint32_t leaf_index = 1024 * TABLE + PAGE;
@@ -79,12 +79,17 @@ static void raw(const char *step)
     print_access(step, mmu_raw_access(copy, sizeof copy, unit.buffer, sizeof unit.buffer, address, true, false, 2));
 }
 
-static void store_leaf(const char *step, uint32_t word)
+static void store_word(const char *step, uint32_t index, uint32_t word)
 {
     uint64_t answer = mmu_table_store(unit.registers, sizeof unit.registers, unit.buffer, sizeof unit.buffer,
-                                      unit.tables, sizeof unit.tables, leaf_index, word);
+                                      unit.tables, sizeof unit.tables, index, word);
 
     printf("%s: refusal %" PRIu32 ", slots emptied %" PRIu32 "\n", step, mmu_refusal(answer), mmu_emptied(answer));
+}
+
+static void store_leaf(const char *step, uint32_t word)
+{
+    store_word(step, leaf_index, word);
 }
 
 static void print_cause(const char *step)
@@ -127,5 +132,9 @@ int main(void)
     raw("raw read");
     refused_store("store with a buffer of 511 bytes");
     served("read after it", false);
+    store_word("directory without a table", 512 * DIRECTORY, 0);
+    served("read under it", false);
+    store_word("global root with number 0", GLOBAL_ROOT, MMU_PRESENT);
+    served("read past it", false);
     return 0;
 }

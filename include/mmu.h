@@ -72,8 +72,8 @@ uint64_t mmu_table_store(const uint8_t *registers, size_t registers_len,
 #define MMU_ACCESS_VIOLATION 2u /* The page is the kernel's. */
 #define MMU_INVALID_PAGE 4u     /* The page is not valid. */
 #define MMU_MISS 8u             /* No entry hit. */
-#define MMU_ABSENT 16u          /* The walk met a word that is not present. */
-#define MMU_BROKEN 32u          /* The walk met a present word that names no directory or table. */
+#define MMU_ABSENT 16u          /* The walk ended at a word that is not present. */
+#define MMU_BROKEN 32u          /* The walk ended at a present word that names no directory or table. */
 
 /* The levels at which a walk stops. */
 
