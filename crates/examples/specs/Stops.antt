@@ -24,7 +24,8 @@ unfoldable pub bothSay : (words : List ℕ) (id ctrl address value : ℕ) → Li
 bothSay words id ctrl address value =
     (unitSays words id ctrl address gives Fault value) ∷ (readerSays words id ctrl address gives Fault value) ∷ []
 
--- the global tree's directory is number 2, and its first word is broken; or it leads to table 2, in which no page is present
+-- the global tree's directory is number 2, and its first word is broken; or it is number 3, and that word is absent, or leads to table 2,
+-- in which no page is present
 unfoldable pub globalDirectoryBroken : List ℕ
 globalDirectoryBroken = set (set good 63 0x80000002) 1024 0x80000000
 
@@ -43,6 +44,8 @@ stops =
     -- broken in the global tree, whatever the own tree has
     ++ bothSay globalBroken 5 7 0x2ABC 0x1120
     ++ bothSay globalDirectoryBroken 5 7 0x2ABC 0x1220
+    -- broken in the own tree behind a global one that is absent at the same level
+    ++ bothSay (set (tables 2048 0x80000001 0x80000000 0xD0000123) 63 0x80000003) 5 7 0x2ABC 0x220
     -- the word that decided, and not the deepest that was read: the global tree stops at level 3, the own one at level 1
     ++ bothSay globalLeafAbsent 4 7 0x2ABC 0x110
     ++ bothSay shared 4 7 0x4ABC 0x110

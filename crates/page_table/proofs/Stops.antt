@@ -1,15 +1,16 @@
--- The level of a stop is the number of words read of its tree. Assumes nothing.
+-- Where a walk stopped: the tree, and the level by the words that it read. Assumes nothing.
 use Prim.Native.Nat.{ℕ, zero, suc, _+_, _-_, _≤_}
 use mathlib.Core.Path.{_≡_, refl, sym, ap, _∙_, subst}
 use mathlib.Core.Bool.{Bool, true, false, cond, not, _&&_}
 use mathlib.Core.List.{List, [], _∷_}
 use lib.ListN.{length, getD}
 use native.Mathlib.Omega.{arith}
+use Rattle.runs.proofs.Bools.{clash}
 use Rattle.page_table.specs.Words.{present}
 use Rattle.page_table.specs.Stretches.{stretchSize, broken}
 use Rattle.page_table.specs.Walk.{leafAt, stopAt, indexBelow, descend, walkTree, globalFirst, walkPage}
 use Rattle.page_table.specs.Reads.{leadsOn, treeReads}
-use Rattle.page_table.specs.Stops.{CountsReads, LevelsCountReads}
+use Rattle.page_table.specs.Stops.{isAbsent, StopsAt, StopIsTrue, WalkStops}
 use Rattle.page_table.specs.declared.Stop.{Stop}
 use Rattle.page_table.specs.declared.Walk.{Walk}
 use Rattle.page_table.specs.declared.Walk.the-variants.{Leaf, Absent, Broken}
@@ -55,31 +56,38 @@ counts words vpn global (suc n) at l =
     go true false ih = more below ih
     go false q ih = omega arith
 
--- a tree's walk, whose root is that of the tree that it names
-tree-counts : (words : List ℕ) (id vpn : ℕ) (global : Bool) → CountsReads words id vpn (walkTree words vpn global (cond global 63 id))
-unfolding walkTree CountsReads whose
-tree-counts words id vpn global =
+-- a tree's walk stops in the tree that it names
+tree-stops : (words : List ℕ) (id vpn : ℕ) (global : Bool) → (global ≡ false → isAbsent (walkTree words vpn true 63) ≡ true)
+    → StopIsTrue words id vpn (walkTree words vpn global (cond global 63 id))
+unfolding walkTree StopIsTrue whose
+tree-stops words id vpn global after =
     let whole : 2 - 2 + length (treeReads words vpn 2 root) ≡ length (treeReads words vpn 2 root) = omega arith in
     let level = subst (HasLevel (walkTree words vpn global root)) whole (counts words vpn global 2 root (omega arith)) in
-    go (walkTree words vpn global root) level (tree-whose words vpn global root)
+    go (walkTree words vpn global root) refl level (tree-whose words vpn global root)
   where
     root : ℕ
     root = cond global 63 id
 
-    named : (s : Stop) → s .global ≡ global → s .level ≡ length (treeReads words vpn 2 root)
-        → s .level ≡ length (treeReads words vpn 2 (cond (s .global) 63 id))
-    named s g h = h ∙ ap (λ (b : Bool). length (treeReads words vpn 2 (cond b 63 id))) (sym g)
+    there : (x : Walk) (s : Stop) → walkTree words vpn global root ≡ x → s .level ≡ length (treeReads words vpn 2 root)
+        → s .global ≡ global → StopsAt words id vpn x s
+    there x s e h g = record {
+      tree-is = subst (λ (b : Bool). walkTree words vpn b (cond b 63 id) ≡ x) (sym g) e;
+      own-after-global = λ own. after (sym g ∙ own);
+      level-is = h ∙ ap (λ (b : Bool). length (treeReads words vpn 2 (cond b 63 id))) (sym g);
+    }
 
-    go : (x : Walk) → HasLevel x (length (treeReads words vpn 2 root)) → whose x ≡ global → CountsReads words id vpn x
-    go (Leaf f) h g = tt
-    go (Absent s) h g = named s g h
-    go (Broken s) h g = named s g h
+    go : (x : Walk) → walkTree words vpn global root ≡ x → HasLevel x (length (treeReads words vpn 2 root)) → whose x ≡ global
+        → StopIsTrue words id vpn x
+    go (Leaf f) e h g = tt
+    go (Absent s) e h g = there (Absent s) s e h g
+    go (Broken s) e h g = there (Broken s) s e h g
 
-pub levels-count-reads : LevelsCountReads
-unfolding walkPage globalFirst
-levels-count-reads words id vpn = go (walkTree words vpn true 63) (tree-counts words id vpn true)
+pub walk-stops : WalkStops
+unfolding walkPage globalFirst isAbsent
+walk-stops words id vpn = go (walkTree words vpn true 63) refl (tree-stops words id vpn true (λ e. absurd (clash refl e)))
   where
-    go : (x : Walk) → CountsReads words id vpn x → CountsReads words id vpn (globalFirst x (walkTree words vpn false id))
-    go (Leaf f) h = h
-    go (Absent s) h = tree-counts words id vpn false
-    go (Broken s) h = h
+    go : (x : Walk) → walkTree words vpn true 63 ≡ x → StopIsTrue words id vpn x
+        → StopIsTrue words id vpn (globalFirst x (walkTree words vpn false id))
+    go (Leaf f) e h = h
+    go (Absent s) e h = tree-stops words id vpn false (λ own. ap isAbsent e)
+    go (Broken s) e h = h

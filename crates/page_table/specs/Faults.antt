@@ -55,7 +55,7 @@ ToldByFault (Broken s) = Tells (walkFault (Broken s)) 32 s × OneOf brokenFaults
 abbrev pub WalkTold : Type 0
 WalkTold = (words : List ℕ) (id vpn : ℕ) → ToldByFault (walkPage words id vpn)
 
--- The fault values that an access can have which this walk decides: where it found a leaf those of exceptions, the least one to 8; else the
+-- The fault values that an access can have which this walk decides: where it found a leaf an exception's, from `least` to 8; else the
 -- walk's own, which is one of the seven.
 unfoldable pub PossibleFault : (least : ℕ) (found : Walk) (value : ℕ) → Type 0
 PossibleFault least (Leaf f) value = (least ≤ value) × (value ≤ 8)

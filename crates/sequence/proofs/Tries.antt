@@ -201,12 +201,12 @@ module _ (ctrl : ℕ) (a : Access) (found : Found) where
       → leafAnswer ctrl a found
       ≡ verdict ctrl a (leafValid (found .word)) (leafKernel (found .word)) (leafWe (found .word)) (leafPfn (found .word))
   unfolding leafAnswer verdict
-  leaf-seen h = go (leafValid w) (invExc ctrl) h
+  leaf-seen h = go _ (leafValid w) (invExc ctrl) h
     where
-      go : (x y : Bool) → x || y ≡ true → cond (not x && not y) (Fault (walkFault (Leaf found))) v ≡ v
-      go true y q = refl
-      go false true q = refl
-      go false false q = absurd (clash q refl)
+      go : (u : Outcome) (x y : Bool) → x || y ≡ true → cond (not x && not y) u v ≡ v
+      go u true y q = refl
+      go u false true q = refl
+      go u false false q = absurd (clash q refl)
 
   leaf-unseen : leafValid (found .word) || invExc ctrl ≡ false → leafAnswer ctrl a found ≡ Fault MISS
   unfolding leafAnswer verdict walkFault

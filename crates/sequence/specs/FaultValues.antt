@@ -1,16 +1,17 @@
 -- The fault values of the reader, and so of every access in a sequence.
 use Prim.Native.Nat.{ℕ}
 use mathlib.Core.Path.{_≡_}
-use mathlib.Core.Bool.{true}
+use mathlib.Core.Bool.{Bool, true, false, not, _&&_}
 use mathlib.Core.List.{List, [], _∷_}
 use Rattle.registers.specs.declared.Access.{Access}
 use Rattle.registers.specs.declared.Outcome.{Outcome}
 use Rattle.registers.specs.declared.Reply.{Reply}
 use Rattle.page_table.specs.Stretches.{tablesFit}
-use Rattle.page_table.specs.Faults.{PossibleFault}
 use Rattle.slots.specs.Buffer.{Buffer, bufferFits}
+use Rattle.access.specs.Segments.{inLinearSegment}
+use Rattle.access.specs.Translation.{isSet}
 use Rattle.control.specs.Starting.{StartGives}
-use Rattle.mmu.specs.FaultValues.{IfFault}
+use Rattle.mmu.specs.FaultValues.{IfFault, DecidedBy}
 use Rattle.sequence.specs.Reader.{Reader, readerWalk, readerAnswer}
 use Rattle.sequence.specs.Effects.{Effect}
 use Rattle.sequence.specs.Effects.Effect.{Keep, Serve, Rewrite, Set}
@@ -23,14 +24,23 @@ use Rattle.sequence.specs.Demand3.{HandedThroughout}
 abbrev pub leastFault : ℕ
 leastFault = 1
 
--- the reader's walk decides its fault: 1 to 8 where it found a leaf, else the walk's own value, one of the seven that say where it stopped
-abbrev pub ReaderFaults : Type 0
-ReaderFaults = (d : Reader) (a : Access) → IfFault (PossibleFault leastFault (readerWalk d a)) (readerAnswer d a)
+-- "enable off gives the virtual address; then the linear rule; then the walk": the third
+unfoldable pub byWalk : Reader → Access → Bool
+byWalk d a = isSet (d .settings .enable) && not (inLinearSegment (d .settings .kseg) a)
 
--- an accepted access gave such a fault, of the reader's walk, or none
+-- the reader's walk decides: with a leaf a fault is 1 to 8; without one there is a fault, of the walk's own value, which is one of the seven
+-- that say where it stopped. Where no walk is made there is no fault.
+pub record ReaderFault (d : Reader) (a : Access) (outcome : Outcome) : Type 0 where
+  pub walked : byWalk d a ≡ true → DecidedBy leastFault (readerWalk d a) outcome
+  pub else-none : byWalk d a ≡ false → IfFault (λ value. ⊥) outcome
+
+abbrev pub ReaderFaults : Type 0
+ReaderFaults = (d : Reader) (a : Access) → ReaderFault d a (readerAnswer d a)
+
+-- an accepted access was decided so
 unfoldable pub FaultOwed : Reader → Effect → Outcome → Type 0
 FaultOwed d Keep outcome = Unit {0}
-FaultOwed d (Serve a) outcome = IfFault (PossibleFault leastFault (readerWalk d a)) outcome
+FaultOwed d (Serve a) outcome = ReaderFault d a outcome
 FaultOwed d (Rewrite gs) outcome = Unit {0}
 FaultOwed d (Set number value) outcome = Unit {0}
 
