@@ -1,4 +1,5 @@
-/* A grader's view of a page: it is loaded, aged and given back, and no stale entry answers for it.
+/* A grader's view of a page: it is loaded, aged and given back, and no stale entry answers for it. Then its directory's word goes, and the
+ * global root is broken, to show where walks stop.
  *
  * Build, from the root of the repository:
  *   rt staticlib mmu_c
@@ -43,7 +44,7 @@ static void set_up(void)
     mmu_put_word(unit.registers + MMU_AT_ENABLE, 1);
 }
 
-/* The kind of a fault and, where a walk stopped without a leaf, the level of the word that decided. */
+/* The kind of a fault and, where a walk stopped without a leaf, the level and the tree of the word that decided. */
 static void print_fault(uint64_t answer)
 {
     printf("fault %" PRIu32, mmu_kind(answer));
@@ -135,6 +136,6 @@ int main(void)
     store_word("directory without a table", 512 * DIRECTORY, 0);
     served("read under it", false);
     store_word("global root with number 0", GLOBAL_ROOT, MMU_PRESENT);
-    served("read past it", false);
+    served("read after that", false);
     return 0;
 }

@@ -73,7 +73,7 @@ uint64_t mmu_table_store(const uint8_t *registers, size_t registers_len,
 #define MMU_INVALID_PAGE 4u     /* The page is not valid. */
 #define MMU_MISS 8u             /* No entry hit. */
 #define MMU_ABSENT 16u          /* The walk ended at a word that is not present. */
-#define MMU_BROKEN 32u          /* The walk ended at a present word that names no directory or table. */
+#define MMU_BROKEN 32u          /* The walk ended at a present word that is no good root or directory word. */
 
 /* The levels at which a walk stops. */
 

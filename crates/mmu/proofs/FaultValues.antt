@@ -63,14 +63,15 @@ unfolding accessReply walkFor
 access-fault m a = by-try (missed (firstTry m a)) refl
   where
     by-try : (t : Bool) → missed (firstTry m a) ≡ t
-        → ServedFault m a ((cond t (afterMiss (walkFor m a) ((firstTry m a) .registers) (m .buffer) a) (triedReply (firstTry m a) 0)) .outcome)
+        → ServedFault m a ((cond t (afterMiss (walkFor m a) ((firstTry m a) .registers) (m .buffer) a)
+        (triedReply (firstTry m a) 0)) .outcome)
     by-try true miss = record {
       on-miss = λ y. miss-decided (walkFor m a) ((firstTry m a) .registers) (m .buffer) a (walk-told (m .words) _ _);
       no-miss = λ hit. absurd (clash miss hit);
     }
     by-try false hit = record {
       on-miss = λ miss. absurd (clash miss hit);
-      no-miss = λ y. tried (λ (value : ℕ). value ≤ 7) (firstTry m a) 0 (stands-low m a hit);
+      no-miss = λ y. tried _ (firstTry m a) 0 (stands-low m a hit);
     }
 
 pub served-faults : ServedFaults

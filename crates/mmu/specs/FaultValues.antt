@@ -25,8 +25,8 @@ IfFault P (Fault value) = P value
 IfFault P (Done emptied) = Unit {0}
 IfFault P (Refused number) = Unit {0}
 
--- A walk decides an access: with a leaf its fault, if it has one, is an exception's, from `least` to 8; without a leaf it is a fault, of the
--- walk's own value, which is one of the seven.
+-- A walk decides an access: with a leaf its fault, if it has one, is an exception's, from `least` to 8; without a leaf it is a fault of
+-- the walk's own value, which is one of the seven.
 unfoldable pub DecidedBy : (least : ℕ) (found : Walk) → Outcome → Type 0
 DecidedBy least (Leaf f) outcome = IfFault (PossibleFault least (Leaf f)) outcome
 DecidedBy least (Absent s) outcome = IsFault (PossibleFault least (Absent s)) outcome

@@ -13,7 +13,7 @@ use Rattle.page_table.specs.declared.Walk.the-variants.{Leaf, Absent, Broken}
 use Rattle.page_table.proofs.FaultLaws.{kind-told}
 use Rattle.report.specs.Totals.{Gain, SERVED, LOADS}
 use Rattle.report.specs.Gains.{gain, hasColumn, faultColumn, faultGains, accessGains}
-use Rattle.report.specs.FaultKinds.{CountedByKind}
+use Rattle.report.specs.FaultKinds.{leastCounted, CountedByKind}
 
 -- the gains of a kind that has a column
 column-gains : (kind column : ℕ) → hasColumn kind ≡ true → faultColumn kind ≡ column → faultGains kind ≡ gain column (pos 1) ∷ []
@@ -30,7 +30,7 @@ low-column : (kind : ℕ) → 1 ≤ kind → kind ≤ 8 → hasColumn kind ≡ t
 unfolding hasColumn
 low-column kind low high = rw (le-leb 1 kind low, le-leb kind 8 high)
 
-has-one : (found : Walk) (value : ℕ) → PossibleFault 1 found value → hasColumn (faultKind value) ≡ true
+has-one : (found : Walk) (value : ℕ) → PossibleFault leastCounted found value → hasColumn (faultKind value) ≡ true
 unfolding PossibleFault walkFault hasColumn faultKind
 has-one (Leaf f) value p =
     let k : faultKind value ≡ value = omega (arith, p .1) in

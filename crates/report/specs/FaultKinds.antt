@@ -12,6 +12,10 @@ use Rattle.page_table.specs.declared.Walk.the-variants.{Absent, Broken}
 use Rattle.report.specs.Totals.{SERVED, LOADS}
 use Rattle.report.specs.Gains.{gain, hasColumn, accessGains}
 
+-- the least value of a fault that has a column
+abbrev pub leastCounted : ℕ
+leastCounted = 1
+
 -- "still counts them as 16 and 32", wherever the walk stopped: column 10 counts the absent ones, 11 the broken ones, and value + 1 the
 -- exceptions 1 to 8
 pub record CountedByKind (loads : ℕ) : Type 0 where
@@ -21,5 +25,5 @@ pub record CountedByKind (loads : ℕ) : Type 0 where
       → accessGains (Fault (walkFault (Broken s))) loads ≡ gain SERVED (pos 1) ∷ gain LOADS (pos loads) ∷ gain 11 (pos 1) ∷ []
   pub exception : (value : ℕ) → 1 ≤ value → value ≤ 8
       → accessGains (Fault value) loads ≡ gain SERVED (pos 1) ∷ gain LOADS (pos loads) ∷ gain (value + 1) (pos 1) ∷ []
-  -- so every fault that an access can have, 0 left aside, is counted in one column
-  pub possible : (found : Walk) (value : ℕ) → PossibleFault 1 found value → hasColumn (faultKind value) ≡ true
+  -- so every fault that an access can have is counted in one column, but for 0
+  pub possible : (found : Walk) (value : ℕ) → PossibleFault leastCounted found value → hasColumn (faultKind value) ≡ true

@@ -30,7 +30,8 @@ use Rattle.sequence.specs.Sentences.{AnsweredAsReader}
 use Rattle.sequence.specs.Systems.{System, systemAfter, Moment, IfAccepted}
 use Rattle.sequence.specs.Systems.Moment.{Start, After}
 use Rattle.sequence.specs.Demand3.{Holds, HoldsThroughout, Demand3}
-use Rattle.sequence.specs.FaultValues.{leastFault, byWalk, ReaderFault, ReaderFaults, FaultOwed, FaultGiven, FaultsThroughout, SequenceFaults}
+use Rattle.sequence.specs.FaultValues.{leastFault, byWalk, ReaderFault, ReaderFaults, FaultOwed, FaultGiven, FaultsThroughout}
+use Rattle.sequence.specs.FaultValues.{SequenceFaults}
 use Rattle.sequence.proofs.Theorem.{demand3}
 
 -- a leaf's fault: 8, or its exceptions, of which there is one

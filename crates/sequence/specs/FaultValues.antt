@@ -28,8 +28,8 @@ leastFault = 1
 unfoldable pub byWalk : Reader → Access → Bool
 byWalk d a = isSet (d .settings .enable) && not (inLinearSegment (d .settings .kseg) a)
 
--- the reader's walk decides: with a leaf a fault is 1 to 8; without one there is a fault, of the walk's own value, which is one of the seven
--- that say where it stopped. Where no walk is made there is no fault.
+-- The reader's walk decides: with a leaf a fault is 1 to 8; without one there is a fault, of the walk's own value, which is one of the
+-- seven that say where it stopped. Where no walk is made there is no fault.
 pub record ReaderFault (d : Reader) (a : Access) (outcome : Outcome) : Type 0 where
   pub walked : byWalk d a ≡ true → DecidedBy leastFault (readerWalk d a) outcome
   pub else-none : byWalk d a ≡ false → IfFault (λ value. ⊥) outcome

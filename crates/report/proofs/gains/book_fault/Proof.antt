@@ -37,7 +37,8 @@ book-requires c κs = (
   c .before .before .before .before .before .before .totals .given
       ∙ c .before .before .before .before .before .before .before .before .before .pre .0,
   c .before .before .before .before .before .before .before .book-served .ensures .in-limit
-      (not-false (c .before .before .before .before .before .before .before .book-served .result) (c .before .before .before .before .before .if1 .left)),
+      (not-false (c .before .before .before .before .before .before .before .book-served .result)
+      (c .before .before .before .before .before .if1 .left)),
   column-small _ _ (c .before .fault-column .ensures),
   omega arith,
 )
@@ -48,7 +49,8 @@ same-length-3 c = search needs
 returns-3 : tie.Need-returns-3
 returns-3 c =
     fault-done _ _ _ _ _ _ (c .before .before .before .before .before .before .before .before .before .book-served .ensures)
-    (c .before .before .before .before .before .before .before .if1 .left) _ (c .before .before .before .before .before .before .fault-kind .ensures) _
+    (c .before .before .before .before .before .before .before .if1 .left) _
+    (c .before .before .before .before .before .before .fault-kind .ensures) _
     (c .before .before .before .before .before .has-column .ensures) (c .before .before .before .before .if2 .left) _
     (c .before .before .before .fault-column .ensures) _ _ (c .before .book .ensures)
 
