@@ -112,34 +112,30 @@ fn counted(words: &[u32]) -> [i64; 2] {
     [columns[10], columns[11]]
 }
 
-#[test]
-fn absent_at_each_level_of_the_own_tree() {
+/// Each of these words at each level of the own tree gives these faults, behind a global tree that
+/// is absent by that word at each of its levels.
+fn own_tree_stops(in_global: u32, in_own: &[u32], faults: &[u32], columns: [i64; 2]) {
     for global in GLOBAL {
-        for (own, expected) in OWN.into_iter().zip([0x110, 0x210, 0x310]) {
-            for word in ABSENT {
+        for (own, &expected) in OWN.into_iter().zip(faults) {
+            for &word in in_own {
                 let mut words = two_leaves();
-                words[global] = 0;
+                words[global] = in_global;
                 words[own] = word;
                 assert_eq!(value(&words), expected, "{global} {own} {word:X}");
-                assert_eq!(counted(&words), [1, 0]);
+                assert_eq!(counted(&words), columns);
             }
         }
     }
 }
 
 #[test]
+fn absent_at_each_level_of_the_own_tree() {
+    own_tree_stops(0, &ABSENT, &[0x110, 0x210, 0x310], [1, 0]);
+}
+
+#[test]
 fn broken_at_either_level_of_the_own_tree() {
-    for global in GLOBAL {
-        for (own, expected) in OWN.into_iter().zip([0x120, 0x220]) {
-            for word in BROKEN {
-                let mut words = two_leaves();
-                words[global] = 0x7FFF_FFFF;
-                words[own] = word;
-                assert_eq!(value(&words), expected, "{global} {own} {word:X}");
-                assert_eq!(counted(&words), [0, 1]);
-            }
-        }
-    }
+    own_tree_stops(0x7FFF_FFFF, &BROKEN, &[0x120, 0x220], [0, 1]);
 }
 
 #[test]
