@@ -5,3 +5,4 @@ pub mod Keeping
 pub mod Locations
 pub mod Values
 pub mod Plain
+pub mod AfterHit

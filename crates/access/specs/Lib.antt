@@ -1,3 +1,4 @@
 pub mod Segments
 pub mod Exceptions
 pub mod Translation
+pub mod AfterHit

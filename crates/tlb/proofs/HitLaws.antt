@@ -1,7 +1,10 @@
 -- Laws of the hit test and of the search, over any set below 4. Assumes nothing.
 use Prim.Native.Nat.{ℕ, _<_}
-use mathlib.Core.Path.{_≡_, sym, _∙_}
-use mathlib.Core.Bool.{Bool, true, or-true}
+use mathlib.Core.Path.{_≡_, sym, ap, _∙_}
+use mathlib.Core.Bool.{Bool, true, _&&_, or-true, and-assoc}
+use lib.Dec.{eqb}
+use borrow.Author.Tests.{eqb-true, eq-eqb}
+use Rattle.runs.proofs.Bools.{same-test}
 use Rattle.runs.proofs.Counts.{lowest-lt}
 use Rattle.entry.specs.Address.{slotOf}
 use Rattle.entry.specs.Entry.{unpack}
@@ -10,24 +13,21 @@ use Rattle.slots.specs.Buffer.{Buffer, slotAt}
 use Rattle.tlb.specs.Hit.{validOrInvExc, vpn15Matches, idMatchesOrGlobal, matchesPage, hit}
 use Rattle.tlb.specs.Search.{fieldsAt, setHits, hitSet, Searched}
 
--- each condition reads only its own fields
-pub valid-alike : (inv-exc : Bool) (f g : Entry) → f .valid ≡ g .valid → validOrInvExc inv-exc f ≡ validOrInvExc inv-exc g
-unfolding validOrInvExc
-valid-alike inv-exc f g e = rw e
+-- a comparison from its other side, by what is found there
+pub compared : (a : ℕ) {b n : ℕ} → b ≡ n → eqb a b ≡ eqb n a
+compared a {b} {n} q =
+    same-test (eqb a b) (eqb n a) (λ h. eq-eqb n a (sym (eqb-true a b h ∙ q))) (λ h. eq-eqb a b (sym (q ∙ eqb-true n a h)))
 
-pub vpn15-alike : (vpn : ℕ) (f g : Entry) → f .vpn15 ≡ g .vpn15 → vpn15Matches vpn f ≡ vpn15Matches vpn g
-unfolding vpn15Matches
-vpn15-alike vpn f g e = rw e
-
-pub id-alike : (context : ℕ) (f g : Entry) → f .«page_id» ≡ g .«page_id» → f .global ≡ g .global
-    → idMatchesOrGlobal context f ≡ idMatchesOrGlobal context g
-unfolding idMatchesOrGlobal
-id-alike context f g p q = rw (p, q)
+-- the three conditions, joined in the formula's order
+pub joined : (inv-exc : Bool) (context vpn : ℕ) (f : Entry) (valid page id : Bool) → valid ≡ validOrInvExc inv-exc f
+    → page ≡ vpn15Matches vpn f → id ≡ idMatchesOrGlobal context f → valid && page && id ≡ hit inv-exc context vpn f
+unfolding hit matchesPage
+joined inv-exc context vpn f valid page id p q r = and-assoc valid page id ∙ (λ i. p i && (q i && r i))
 
 -- with inv_exc on, an entry hits exactly where it is the page's, whatever its valid bit
 pub hit-inv : (context vpn : ℕ) (f : Entry) → hit true context vpn f ≡ matchesPage context vpn f
 unfolding hit validOrInvExc
-hit-inv context vpn f = rw (or-true (f .valid))
+hit-inv context vpn f = ap (λ (t : Bool). t && matchesPage context vpn f) (or-true (f .valid))
 
 -- one turn of the search, by what the functions that it calls gave
 pub set-told : (b : Buffer) (inv-exc : Bool) (context vpn set slot e : ℕ) (t : Bool) → slot ≡ slotOf set vpn → e ≡ slotAt b slot

@@ -1,3 +1,5 @@
 pub mod Hit
 pub mod Search
 pub mod Load
+pub mod Formula
+pub mod Alike

@@ -1,49 +1,18 @@
-// The translation buffer's hit test, the search of a page's four slots, and the load of an entry.
+// The search of a page's four slots by the hit test, and the load of an entry.
+mod hit;
+
 ghost use mathlib.Core.Bool.{true};
 ghost use mathlib.Core.Path.{_≡_};
 ghost use Prim.Native.Nat.{_<_};
-ghost use Rattle.entry.specs.Entry.{unpack};
 ghost use Rattle.slots.specs.Buffer.{Buffer, bufferFits};
-ghost use Rattle.tlb.specs.Hit.{hit, idMatchesOrGlobal, matchesPage, validOrInvExc, vpn15Matches};
 ghost use Rattle.tlb.specs.Search.{Searched};
 ghost use Rattle.tlb.specs.Load.{LoadGives};
+use crate::hit::hit;
 
 // How many of the four slots hit, and the lowest set that does.
 pub struct Hits {
     pub count: u32,
     pub set: u32,
-}
-
-fn valid_or_inv_exc(inv_exc: bool, e: u64) -> bool
-    ensures { λ r. ⌜ r ≡ validOrInvExc «inv_exc» (unpack e) ⌝ }
-{
-    entry::is_valid(e) | inv_exc
-}
-
-fn vpn15_matches(vpn: u32, e: u64) -> bool
-    ensures { λ r. ⌜ r ≡ vpn15Matches vpn (unpack e) ⌝ }
-{
-    entry::vpn15_of(e) == vpn / 16
-}
-
-fn id_matches_or_global(context: u32, e: u64) -> bool
-    ensures { λ r. ⌜ r ≡ idMatchesOrGlobal context (unpack e) ⌝ }
-{
-    (entry::page_id_of(e) == context) | entry::is_global(e)
-}
-
-// The entry is this page's, whatever its valid bit.
-fn matches_page(context: u32, vpn: u32, e: u64) -> bool
-    ensures { λ r. ⌜ r ≡ matchesPage context vpn (unpack e) ⌝ }
-{
-    vpn15_matches(vpn, e) & id_matches_or_global(context, e)
-}
-
-// The reference's formula: three conditions on a number's fields. The other fields are taken out only after a hit.
-fn hit(inv_exc: bool, context: u32, vpn: u32, e: u64) -> bool
-    ensures { λ r. ⌜ r ≡ hit «inv_exc» context vpn (unpack e) ⌝ }
-{
-    valid_or_inv_exc(inv_exc, e) & matches_page(context, vpn, e)
 }
 
 // Looks at the page's slot in each set, from the last set down. With no hit the set answered is `otherwise`.
