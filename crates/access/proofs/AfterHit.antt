@@ -1,6 +1,6 @@
 -- The frame number and the other fields are taken out only after a hit. Assumes nothing.
 use Prim.Native.Nat.{ℕ, zero, suc}
-use mathlib.Core.Path.{_≡_, refl, ap, _∙_}
+use mathlib.Core.Path.{_≡_, refl, sym, ap, _∙_}
 use Rattle.entry.specs.Address.{vpnOf, slotOf}
 use Rattle.entry.specs.declared.Entry.{Entry}
 use Rattle.registers.specs.declared.Access.{Access}
@@ -20,18 +20,18 @@ by-count zero r a set f g same = refl
 by-count (suc zero) r a set f g same = ap (onHit r a (slotOf set (vpnOf (a .address)))) (same refl)
 by-count (suc (suc n)) r a set f g same = refl
 
-module _ (r : Registers) (b c : Buffer) (a : Access) (bits : SameHitBits b c (vpnOf (a .address))) (fields : SameEntryHit r b c a) where
+module _ (r : Registers) (b c : Buffer) (a : Access) (same : SameHitBits b c (vpnOf (a .address))) (fields : SameEntryHit r b c a) where
   mapped-alike : pageMapped r b a ≡ pageMapped r c a
   unfolding pageMapped foundSet SameEntryHit
   mapped-alike =
       by-count _ r a (foundSet r b a) _ _ fields
       ∙ ap (λ (n : ℕ). byHitCount n r a (foundSet r b a) (fieldsAt c (vpnOf (a .address)) (foundSet r b a)))
-      (hit-count-alike b c (invExc (r .ctrl)) (r .context) (vpnOf (a .address)) bits)
+      (hit-count-alike b c (invExc (r .ctrl)) (r .context) (vpnOf (a .address)) same)
       ∙ ap
       (λ (set : ℕ). byHitCount (hitCount c (invExc (r .ctrl)) (r .context) (vpnOf (a .address))) r a set
       (fieldsAt c (vpnOf (a .address)) set))
-      (hit-set-alike b c (invExc (r .ctrl)) (r .context) (vpnOf (a .address)) bits (a .draw))
+      (hit-set-alike b c (invExc (r .ctrl)) (r .context) (vpnOf (a .address)) same (a .draw))
 
 pub taken-after-hit : TakenAfterHit
 unfolding translate
-taken-after-hit r b c a bits fields = rw (mapped-alike r b c a bits fields)
+taken-after-hit r b c a same fields t t′ p p′ = p ∙ rw (mapped-alike r b c a same fields) (sym p′)

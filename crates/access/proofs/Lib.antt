@@ -6,3 +6,4 @@ pub mod Locations
 pub mod Values
 pub mod Plain
 pub mod AfterHit
+pub mod HitFormula

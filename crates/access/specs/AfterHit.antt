@@ -8,6 +8,7 @@ use Rattle.tlb.specs.Search.{fieldsAt, hitCount}
 use Rattle.tlb.specs.Alike.{SameHitBits}
 use Rattle.access.specs.Exceptions.{invExc}
 use Rattle.access.specs.Translation.{foundSet, translate}
+use Rattle.access.specs.declared.Translation.{Translation}
 
 -- where exactly one entry hits, two buffers agree in its fields
 unfoldable pub SameEntryHit : Registers → (b c : Buffer) → Access → Type 0
@@ -19,4 +20,4 @@ SameEntryHit r b c a =
 -- entry that hits, if exactly one does, an access answers alike and leaves the same registers, whatever the other bits
 abbrev pub TakenAfterHit : Type 0
 TakenAfterHit = (r : Registers) (b c : Buffer) (a : Access) → SameHitBits b c (vpnOf (a .address)) → SameEntryHit r b c a
-    → translate r b a ≡ translate r c a
+    → (t t′ : Translation) → t ≡ translate r b a → t′ ≡ translate r c a → t ≡ t′

@@ -2,3 +2,4 @@ pub mod Segments
 pub mod Exceptions
 pub mod Translation
 pub mod AfterHit
+pub mod HitFormula

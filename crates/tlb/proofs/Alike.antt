@@ -12,25 +12,25 @@ use Rattle.entry.specs.declared.Entry.{Entry}
 use Rattle.slots.specs.Buffer.{Buffer, slotAt}
 use Rattle.tlb.specs.Hit.{validOrInvExc, vpn15Matches, idMatchesOrGlobal, matchesPage, hit}
 use Rattle.tlb.specs.Search.{fieldsAt, setHits, hitCount, hitSet}
-use Rattle.tlb.specs.Alike.{AnsweredAlike, ValidAlike, VpnAlike, PidAlike, hitBits, HitAlike, SameHitBits, SearchedAlike}
+use Rattle.tlb.specs.Alike.{LooksOnlyAt, ValidAlike, VpnAlike, PidAlike, hitBits, HitAlike, SameHitBits, SearchedAlike}
 
--- a condition that is told by what is looked at answers alike
-answered : {A : Type 0} (looked-at : ℕ → A) (condition : Entry → Bool) (by : A → Bool)
-    → ((e : ℕ) → condition (unpack e) ≡ by (looked-at e)) → AnsweredAlike looked-at condition
-answered looked-at condition by told e e′ r r′ p p′ same = p ∙ told e ∙ ap by same ∙ sym (p′ ∙ told e′)
+-- a condition that can be told by what is looked at
+told-by : {A : Type 0} (looked-at : ℕ → A) (condition : Entry → Bool) (by : A → Bool)
+    → ((e : ℕ) → condition (unpack e) ≡ by (looked-at e)) → LooksOnlyAt looked-at condition
+told-by looked-at condition by told e e′ r r′ p p′ same = p ∙ told e ∙ ap by same ∙ sym (p′ ∙ told e′)
 
 pub valid-alike : ValidAlike
 unfolding validOrInvExc unpack
-valid-alike inv-excp = answered _ (validOrInvExc inv-excp) (λ (valid : Bool). valid || inv-excp) (λ e. refl)
+valid-alike inv-excp = told-by _ (validOrInvExc inv-excp) (λ (valid : Bool). valid || inv-excp) (λ e. refl)
 
 pub vpn-alike : VpnAlike
 unfolding vpn15Matches unpack
-vpn-alike vpn = answered _ (vpn15Matches vpn) (λ (tlb-vpn : ℕ). eqb tlb-vpn (vpn15Of vpn)) (λ e. refl)
+vpn-alike vpn = told-by _ (vpn15Matches vpn) (λ (tlb-vpn : ℕ). eqb tlb-vpn (vpn15Of vpn)) (λ e. refl)
 
 pub pid-alike : PidAlike
 unfolding idMatchesOrGlobal unpack
 pid-alike context-pid =
-    answered _ (idMatchesOrGlobal context-pid) (λ (named : ℕ × Bool). eqb (named .0) context-pid || named .1) (λ e. refl)
+    told-by _ (idMatchesOrGlobal context-pid) (λ (named : ℕ × Bool). eqb (named .0) context-pid || named .1) (λ e. refl)
 
 -- the fields that are looked at, out of bits 43 to 21
 module _ (e e′ : ℕ) (same : hitBits e ≡ hitBits e′) where
@@ -55,22 +55,22 @@ hit-alike inv-excp context-pid vpn e e′ r r′ p p′ same =
     p ∙ (λ i. valid i && (page i && id i)) ∙ sym p′
 
 -- the search looks at a slot by its hit test alone
-module _ (b c : Buffer) (inv-exc : Bool) (context vpn : ℕ) (same : SameHitBits b c vpn) where
-  sets-alike : (set : ℕ) → set < 4 → setHits b inv-exc context vpn set ≡ setHits c inv-exc context vpn set
+module _ (b c : Buffer) (inv-excp : Bool) (context-pid vpn : ℕ) (same : SameHitBits b c vpn) where
+  sets-alike : (set : ℕ) → set < 4 → setHits b inv-excp context-pid vpn set ≡ setHits c inv-excp context-pid vpn set
   unfolding setHits fieldsAt SameHitBits
   sets-alike set l =
-      hit-alike inv-exc context vpn (slotAt b (slotOf set vpn)) (slotAt c (slotOf set vpn)) _ _ refl refl (same set l)
+      hit-alike inv-excp context-pid vpn (slotAt b (slotOf set vpn)) (slotAt c (slotOf set vpn)) _ _ refl refl (same set l)
 
-  pub hit-count-alike : hitCount b inv-exc context vpn ≡ hitCount c inv-exc context vpn
+  pub hit-count-alike : hitCount b inv-excp context-pid vpn ≡ hitCount c inv-excp context-pid vpn
   unfolding hitCount
-  hit-count-alike = count-same (setHits b inv-exc context vpn) (setHits c inv-exc context vpn) 4 sets-alike
+  hit-count-alike = count-same (setHits b inv-excp context-pid vpn) (setHits c inv-excp context-pid vpn) 4 sets-alike
 
-  pub hit-set-alike : (otherwise : ℕ) → hitSet b inv-exc context vpn otherwise ≡ hitSet c inv-exc context vpn otherwise
+  pub hit-set-alike : (otherwise : ℕ) → hitSet b inv-excp context-pid vpn otherwise ≡ hitSet c inv-excp context-pid vpn otherwise
   unfolding hitSet
-  hit-set-alike otherwise = lowest-same (setHits b inv-exc context vpn) (setHits c inv-exc context vpn) 4 otherwise sets-alike
+  hit-set-alike otherwise = lowest-same (setHits b inv-excp context-pid vpn) (setHits c inv-excp context-pid vpn) 4 otherwise sets-alike
 
 pub searched-alike : SearchedAlike
-searched-alike b c inv-exc context vpn otherwise count count′ set set′ s s′ same = (
-  s .count-is ∙ hit-count-alike b c inv-exc context vpn same ∙ sym (s′ .count-is),
-  s .set-is ∙ hit-set-alike b c inv-exc context vpn same otherwise ∙ sym (s′ .set-is),
+searched-alike b c inv-excp context-pid vpn otherwise count count′ set set′ s s′ same = (
+  s .count-is ∙ hit-count-alike b c inv-excp context-pid vpn same ∙ sym (s′ .count-is),
+  s .set-is ∙ hit-set-alike b c inv-excp context-pid vpn same otherwise ∙ sym (s′ .set-is),
 )

@@ -1,6 +1,6 @@
 -- Laws of the hit test and of the search, over any set below 4. Assumes nothing.
 use Prim.Native.Nat.{ℕ, _<_}
-use mathlib.Core.Path.{_≡_, sym, ap, _∙_}
+use mathlib.Core.Path.{_≡_, sym, _∙_}
 use mathlib.Core.Bool.{Bool, true, _&&_, or-true, and-assoc}
 use lib.Dec.{eqb}
 use borrow.Author.Tests.{eqb-true, eq-eqb}
@@ -13,7 +13,7 @@ use Rattle.slots.specs.Buffer.{Buffer, slotAt}
 use Rattle.tlb.specs.Hit.{validOrInvExc, vpn15Matches, idMatchesOrGlobal, matchesPage, hit}
 use Rattle.tlb.specs.Search.{fieldsAt, setHits, hitSet, Searched}
 
--- a comparison from its other side, by what is found there
+-- a comparison with its sides exchanged, one of them known as n
 pub compared : (a : ℕ) {b n : ℕ} → b ≡ n → eqb a b ≡ eqb n a
 compared a {b} {n} q =
     same-test (eqb a b) (eqb n a) (λ h. eq-eqb n a (sym (eqb-true a b h ∙ q))) (λ h. eq-eqb a b (sym (q ∙ eqb-true n a h)))
@@ -27,7 +27,7 @@ joined inv-exc context vpn f valid page id p q r = and-assoc valid page id ∙ (
 -- with inv_exc on, an entry hits exactly where it is the page's, whatever its valid bit
 pub hit-inv : (context vpn : ℕ) (f : Entry) → hit true context vpn f ≡ matchesPage context vpn f
 unfolding hit validOrInvExc
-hit-inv context vpn f = ap (λ (t : Bool). t && matchesPage context vpn f) (or-true (f .valid))
+hit-inv context vpn f = rw (or-true (f .valid))
 
 -- one turn of the search, by what the functions that it calls gave
 pub set-told : (b : Buffer) (inv-exc : Bool) (context vpn set slot e : ℕ) (t : Bool) → slot ≡ slotOf set vpn → e ≡ slotAt b slot

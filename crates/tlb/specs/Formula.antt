@@ -1,21 +1,19 @@
 -- The hit test as the reference writes it (section 4.2.2), under its names.
-use Prim.Native.Nat.{ℕ}
+use Prim.Native.Nat.{ℕ, _/_, _^_}
 use mathlib.Core.Path.{_≡_}
 use mathlib.Core.Bool.{Bool, _&&_, _||_}
 use lib.Dec.{eqb}
 use Rattle.runs.specs.Bits.{bits, flag}
-use Rattle.entry.specs.Address.{vpn15Of}
 use Rattle.entry.specs.Entry.{unpack}
 use Rattle.tlb.specs.Hit.{hit}
 
--- "hit = (valid | inv_excp) & (cpu_vpn == tlb_vpn) & ((context_pid == tlb_pid) | global)"
+-- hit = (valid | inv_excp) & (cpu_vpn == tlb_vpn) & ((context_pid == tlb_pid) | global)
 unfoldable pub formula : (valid inv-excp : Bool) (cpu-vpn tlb-vpn context-pid tlb-pid : ℕ) (global : Bool) → Bool
 formula valid inv-excp cpu-vpn tlb-vpn context-pid tlb-pid global =
     (valid || inv-excp) && eqb cpu-vpn tlb-vpn && (eqb context-pid tlb-pid || global)
 
--- The hit test is the formula. Of the entry's number valid is bit 21, tlb_vpn bits 43 to 29, tlb_pid bits 28 to 23 and global bit 22;
--- cpu_vpn is the upper 15 bits of the page number.
+-- The hit test's answer is the formula's: of the entry's number valid is bit 21, tlb_vpn bits 43 to 29, tlb_pid bits 28 to 23 and global
+-- bit 22; cpu_vpn is the page number without its lower four bits, which are the location.
 abbrev pub HitIsFormula : Type 0
-HitIsFormula = (inv-excp : Bool) (context-pid vpn e : ℕ)
-    → hit inv-excp context-pid vpn (unpack e)
-    ≡ formula (flag 21 e) inv-excp (vpn15Of vpn) (bits 43 29 e) context-pid (bits 28 23 e) (flag 22 e)
+HitIsFormula = (inv-excp : Bool) (context-pid vpn e : ℕ) (answer : Bool) → answer ≡ hit inv-excp context-pid vpn (unpack e)
+    → answer ≡ formula (flag 21 e) inv-excp (vpn / 2 ^ 4) (bits 43 29 e) context-pid (bits 28 23 e) (flag 22 e)

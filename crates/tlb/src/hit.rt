@@ -17,8 +17,9 @@ ghost use Rattle.tlb.specs.Hit.{hit, idMatchesOrGlobal, validOrInvExc, v
 //     tlb_pid      page_id field in the TLB entry
 //     global       global bit (22) in the TLB entry
 //
-// The entry is the number e. Its frame number and its other fields are taken out only after a hit.
-pub(crate) fn hit(inv_excp: bool, context_pid: u32, vpn: u32, e: u64) -> bool
+// The reference's inv_excp is its inv_exc elsewhere, CTRL's bit 2; a load asks with it on. The entry is the number e, of which the frame
+// number and the other fields are taken out only after a hit.
+pub(crate) fn hit(inv_excp: bool, vpn: u32, context_pid: u32, e: u64) -> bool
     ensures { λ r. ⌜ r ≡ hit «inv_excp» «context_pid» vpn (unpack e) ⌝ }
 {
     valid_or_inv_excp(inv_excp, e)
@@ -33,7 +34,8 @@ fn valid_or_inv_excp(inv_excp: bool, e: u64) -> bool
     valid | inv_excp
 }
 
-// Both are the upper 15 bits of a page number: the lower four are the location, which the page and its four entries share.
+// An entry holds the upper 15 bits of its page number; the lower four are the location, by which its slot was found. So of the CPU's page
+// number the upper 15 bits are compared.
 fn cpu_vpn_equals_tlb_vpn(vpn: u32, e: u64) -> bool
     ensures { λ r. ⌜ r ≡ vpn15Matches vpn (unpack e) ⌝ }
 {

@@ -27,7 +27,7 @@ pub fn search(buffer: &[u64], inv_exc: bool, context: u32, vpn: u32, otherwise: 
         left -= 1;
         let slot = entry::slot_of(left, vpn);
         let e = slots::slot_at(buffer, slot);
-        if hit(inv_exc, context, vpn, e) {
+        if hit(inv_exc, vpn, context, e) {
             count += 1;
             set = left;
         }
