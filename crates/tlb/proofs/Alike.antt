@@ -1,4 +1,4 @@
--- Each condition of the hit test looks at the fields that it names, and the search at no others. Assumes nothing.
+-- Each condition of the hit test looks only at the fields that it names, and the search at no others. Assumes nothing.
 use Prim.Native.Nat.{ℕ, _/_, _%_, _^_, _<_}
 use mathlib.Core.Path.{_≡_, refl, sym, ap, _∙_}
 use mathlib.Core.Bool.{Bool, _&&_, _||_}
@@ -54,7 +54,7 @@ hit-alike inv-excp context-pid vpn e e′ r r′ p p′ same =
     let id = pid-alike context-pid e e′ _ _ refl refl (λ i. (same-pid e e′ same i, same-global e e′ same i)) in
     p ∙ (λ i. valid i && (page i && id i)) ∙ sym p′
 
--- the search looks at a slot by its hit test alone
+-- the search looks at a slot only through the hit test
 module _ (b c : Buffer) (inv-excp : Bool) (context-pid vpn : ℕ) (same : SameHitBits b c vpn) where
   sets-alike : (set : ℕ) → set < 4 → setHits b inv-excp context-pid vpn set ≡ setHits c inv-excp context-pid vpn set
   unfolding setHits fieldsAt SameHitBits

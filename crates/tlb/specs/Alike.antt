@@ -10,7 +10,7 @@ use Rattle.slots.specs.Buffer.{Buffer, slotAt}
 use Rattle.tlb.specs.Hit.{validOrInvExc, vpn15Matches, idMatchesOrGlobal, hit}
 use Rattle.tlb.specs.Search.{Searched}
 
--- Of two numbers that agree in what is looked at the answers r and r′ by a condition are the same, whatever the other bits.
+-- Two numbers that agree in what is looked at get the same answers, r and r′, from a condition, whatever their other bits.
 abbrev pub LooksOnlyAt : {A : Type 0} → (looked-at : ℕ → A) (condition : Entry → Bool) → Type 0
 LooksOnlyAt looked-at condition =
     (e e′ : ℕ) (r r′ : Bool) → r ≡ condition (unpack e) → r′ ≡ condition (unpack e′) → looked-at e ≡ looked-at e′ → r ≡ r′

@@ -12,8 +12,11 @@ unfoldable pub formula : (valid inv-excp : Bool) (cpu-vpn tlb-vpn context-pid tl
 formula valid inv-excp cpu-vpn tlb-vpn context-pid tlb-pid global =
     (valid || inv-excp) && eqb cpu-vpn tlb-vpn && (eqb context-pid tlb-pid || global)
 
--- The hit test's answer is the formula's: of the entry's number valid is bit 21, tlb_vpn bits 43 to 29, tlb_pid bits 28 to 23 and global
--- bit 22; cpu_vpn is the page number without its lower four bits, which are the location.
+-- the formula of an entry's number: valid is bit 21, tlb_vpn bits 43 to 29, tlb_pid bits 28 to 23 and global bit 22
+abbrev pub formulaOf : (inv-excp : Bool) (cpu-vpn context-pid e : ℕ) → Bool
+formulaOf inv-excp cpu-vpn context-pid e = formula (flag 21 e) inv-excp cpu-vpn (bits 43 29 e) context-pid (bits 28 23 e) (flag 22 e)
+
+-- The hit test's answer is the formula's. The lower four bits of a page number are the location, and cpu_vpn is the rest.
 abbrev pub HitIsFormula : Type 0
 HitIsFormula = (inv-excp : Bool) (context-pid vpn e : ℕ) (answer : Bool) → answer ≡ hit inv-excp context-pid vpn (unpack e)
-    → answer ≡ formula (flag 21 e) inv-excp (vpn / 2 ^ 4) (bits 43 29 e) context-pid (bits 28 23 e) (flag 22 e)
+    → answer ≡ formulaOf inv-excp (vpn / 2 ^ 4) context-pid e
