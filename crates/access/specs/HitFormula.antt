@@ -21,7 +21,7 @@ entryOf b a set = slotAt b (16 * set + bits 16 13 (a .address))
 unfoldable pub hitsByFormula : Registers → Buffer → Access → (set : ℕ) → Bool
 hitsByFormula r b a set = formulaOf (flag 2 (r .ctrl)) (bits 31 17 (a .address)) (r .context) (entryOf b a set)
 
--- Where the buffer decides, an access goes by how many of the four sets hit by the formula, and takes the fields of the lowest that does.
+-- Where the buffer decides, an access goes by how many of the four sets hit by the formula, and by the entry of the lowest that does.
 abbrev pub MappedByFormula : Type 0
 MappedByFormula = (r : Registers) (b : Buffer) (a : Access) (t : Translation) → t ≡ pageMapped r b a
     → let set = lowest (hitsByFormula r b a) 4 (a .draw) in
