@@ -8,15 +8,15 @@ use lib.Dec.{eqb}
 use borrow.Author.Tests.{eq-eqb, ne-eqb}
 use Rattle.runs.specs.Bits.{bit, bits}
 use Rattle.runs.proofs.Bits.{bits-low, bit-le, bit-of}
-use Rattle.entry.specs.Entry.{unpack, join, lowBits, pack, EntryFits}
-use Rattle.entry.specs.declared.Entry.{Entry}
+use Rattle.entry.specs.Entry.{unpack, join, lowBits, pack}
+use Rattle.entry.specs.RoundTrips.{UnpackPack, PackUnpack}
 
 -- a bit that is told from a number
 flag-back : (b : Bool) (n : ℕ) → n ≡ bit b → eqb n 1 ≡ b
 flag-back true n h = eq-eqb n 1 h
 flag-back false n h = ne-eqb n 1 (λ q. omega arith)
 
-pub unpack-pack : (f : Entry) → EntryFits f → unpack (pack f) ≡ f
+pub unpack-pack : UnpackPack
 unfolding unpack pack join lowBits
 unpack-pack f h = λ j. record {
   vpn15 = vpn15-back j;
@@ -60,7 +60,7 @@ module _ (e : ℕ) where
   at-19 : e % 2 ^ 20 ≡ e / 2 ^ 19 % 2 * 2 ^ 19 + e % 2 ^ 19
   at-19 = omega arith
 
-pub pack-unpack : (e : ℕ) → pack (unpack e) ≡ e % 2 ^ 44
+pub pack-unpack : PackUnpack
 unfolding unpack pack join lowBits
 pack-unpack e =
     rw (bit-of (e / 2 ^ 22), bit-of (e / 2 ^ 21), bit-of (e / 2 ^ 20), bit-of (e / 2 ^ 19))

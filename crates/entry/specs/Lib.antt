@@ -1,3 +1,4 @@
 pub mod Address
 pub mod Entry
 pub mod Empty
+pub mod RoundTrips

@@ -1,10 +1,11 @@
 use native.Mathlib.Omega.{arith}
 use mathlib.Core.Path.{sym, subst}
-use Prim.Native.Nat.{ℕ, _<_}
+use Prim.Native.Nat.{_<_}
 use Rattle.entry.specs.declared.Entry.{Entry}
 use Rattle.entry.proofs.Fields.{slot-lt, unpack-fits}
 use Rattle.tlb.proofs.HitLaws.{searched-lt}
 use Rattle.access.proofs.AccessLaws.{context-lt, draw-lt, mapped-miss, mapped-hit, mapped-many}
+use Rattle.access.proofs.Keeping.{selected-lt}
 use borrow.Author.Needs.{needs}
 use Rattle.access.proofs.page_mapped.Statement.{statement}
 use Rattle.access.proofs.page_mapped.Tie as tie
@@ -34,12 +35,12 @@ slot-of-requires-2 c κs = searched-lt (c .before .before .search .ensures)
     (draw-lt _ (c .before .before .before .before .before .before .pre .draw-fits))
 
 slot-at-requires : tie.Need-slot-at-requires
-slot-at-requires c κs = (
-  c .before .before .before .before .before .before .before .pre .buffer-fits,
-  subst (λ (n : ℕ). n < 64) (sym (c .slot-of2 .ensures))
-      (slot-lt _ _ (searched-lt (c .before .before .before .search .ensures)
-      (draw-lt _ (c .before .before .before .before .before .before .before .pre .draw-fits)))),
-)
+slot-at-requires c κs =
+    let start = c .before .before .before .before .before .before .before in
+    let search = c .before .before .before in
+    let found = searched-lt (search .search .ensures) (draw-lt _ (start .pre .draw-fits)) in
+    let inside = slot-lt (search .search .result .set) (search .before .before .vpn-of .result) found in
+    (start .pre .buffer-fits, omega (arith, c .slot-of2 .ensures, inside, selected-lt _ (start .pre .registers-fit)))
 
 unpack-requires : tie.Need-unpack-requires
 unpack-requires c κs = search needs
