@@ -60,8 +60,11 @@ module _ (e : ℕ) where
   at-19 : e % 2 ^ 20 ≡ e / 2 ^ 19 % 2 * 2 ^ 19 + e % 2 ^ 19
   at-19 = omega arith
 
-pub pack-unpack : PackUnpack
+low-44 : (e : ℕ) → pack (unpack e) ≡ e % 2 ^ 44
 unfolding unpack pack join lowBits
-pack-unpack e =
+low-44 e =
     rw (bit-of (e / 2 ^ 22), bit-of (e / 2 ^ 21), bit-of (e / 2 ^ 20), bit-of (e / 2 ^ 19))
     (rw (at-29 e, at-23 e, at-22 e, at-21 e, at-20 e, at-19 e) (simp (add-assoc, bits-low 18 e)))
+
+pub pack-unpack : PackUnpack
+pack-unpack = low-44

@@ -15,7 +15,8 @@ same-length : tie.Need-same-length
 same-length c = search needs
 
 returns : tie.Need-returns
-returns c = serve-tried _ _ _ (c .before .before .before .translate .ensures) _ (c .before .if1 .taken) (c .tried-reply .ensures)
+returns c = serve-tried _ _ _ (c .before .before .before .translate .ensures) _ (λ miss. omega (arith, c .before .if1 .taken))
+    (c .tried-reply .ensures)
 
 vpn-of-requires : tie.Need-vpn-of-requires
 vpn-of-requires c κs = search needs

@@ -19,7 +19,7 @@ returns-2 c =
     let start = c .before .before .before .before in
     let empty = c .before .before .before .empty-entry .ensures in
     let first = c .before .before .if1 .left in
-    claims-void _ _ _ (start .pre .0) (start .pre .1) empty first _ (c .before .page-id-of .ensures) (c .if2 .taken)
+    claims-void _ _ _ (start .pre .0) (start .pre .1) empty first _ (c .before .page-id-of .ensures) (omega (arith, c .if2 .taken))
 
 vpn15-of-requires : tie.Need-vpn15-of-requires
 vpn15-of-requires c κs = search needs

@@ -1,6 +1,7 @@
 use Prim.Native.Nat.{_-_, _*_, _≤_}
 use mathlib.Core.Path.{_≡_, refl}
 use native.Mathlib.Omega.{arith}
+use lib.Count.{ones-le}
 use Rattle.runs.specs.Counts.{count}
 use Rattle.heap.proofs.BitLaws.{heldWithin, held-le, held-turn, held-end}
 use Rattle.heap.proofs.bits.held_frames.Statement.{statement}
@@ -34,8 +35,8 @@ low-bits-requires c κs = tt
 add-number : tie.Need-add-number Inv-loop μ-loop
 add-number c =
     let inv = c .before .before .before .loop .inv in
-    let word = c .before .word-at in
-    omega (arith, held-le _ _ _ _ (inv .1), held-turn _ _ _ _ _ _ (word .ensures) (word .ok) (c .low-bits .ensures) (inv .1) .1)
+    let held = c .low-bits in
+    omega (arith, held-le _ _ _ _ (inv .1), ones-le 64 (held .result) (held .ok))
 
 add-k : tie.Need-add-k Inv-loop μ-loop
 add-k c = omega arith

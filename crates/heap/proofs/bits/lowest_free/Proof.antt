@@ -1,6 +1,7 @@
 use Prim.Native.Nat.{ℕ, _+_, _-_, _*_, _≤_}
 use mathlib.Core.Path.{ap, _∙_}
 use native.Mathlib.Omega.{arith}
+use lib.Count.{trailing-le}
 use Rattle.heap.proofs.BitLaws.{NoneFree, none-begin, none-turn, none-end, free-found}
 use Rattle.heap.proofs.bits.lowest_free.Statement.{statement}
 use Rattle.heap.proofs.bits.lowest_free.Tie as tie
@@ -36,11 +37,7 @@ lowest-set-requires : tie.Need-lowest-set-requires Inv-loop μ-loop
 lowest-set-requires c κs = tt
 
 add-result : tie.Need-add-result Inv-loop μ-loop
-add-result c =
-    let word = c .before .before .before .word-at in
-    let none = c .before .before .before .before .before .loop .inv .1 in
-    let found = free-found _ _ _ _ _ (word .ensures) (word .ok) (c .before .before .low-bits .ensures) none (c .before .if1 .taken) in
-    omega (arith, found .1, c .lowest-set .ensures)
+add-result c = omega (arith, c .lowest-set .ensures, trailing-le 64 (c .before .before .low-bits .result))
 
 returns : tie.Need-returns Inv-loop μ-loop
 returns c =

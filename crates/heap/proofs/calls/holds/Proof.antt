@@ -1,4 +1,5 @@
 use mathlib.Core.Path.{sym, _∙_}
+use native.Mathlib.Omega.{arith}
 use Rattle.heap.proofs.PoolLaws.{holds-below, holds-past, holds-inside}
 use borrow.Author.Needs.{needs}
 use Rattle.heap.proofs.calls.holds.Statement.{statement}
@@ -8,7 +9,7 @@ returns : tie.Need-returns
 returns c = holds-below _ _ (c .if1 .taken)
 
 returns-2 : tie.Need-returns-2
-returns-2 c = holds-past _ _ (c .before .if1 .left) (c .if2 .taken)
+returns-2 c = holds-past _ _ (c .before .if1 .left) (omega (arith, c .if2 .taken))
 
 held-at-requires : tie.Need-held-at-requires
 held-at-requires c κs = search needs
