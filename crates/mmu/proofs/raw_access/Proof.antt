@@ -1,5 +1,6 @@
 use Prim.Native.Nat.{ℕ}
 use mathlib.Core.Path.{sym, ap, _∙_}
+use native.Mathlib.Omega.{arith}
 use Rattle.registers.proofs.RefusalLaws.{when-accepted, when-refused}
 use Rattle.mmu.specs.RawAccess.{rawReply}
 use Rattle.mmu.specs.declared.RawReply.the-variants.{Answered, Refused}
@@ -13,7 +14,7 @@ raw-refusal-requires c κs = search needs
 
 returns : tie.Need-returns
 unfolding rawReply
-returns c = raw-gives _ _ _ _ (when-refused _ _ (c .before .raw-refusal .ensures) _ _ _ (c .if1 .taken)
+returns c = raw-gives _ _ _ _ (when-refused _ _ (c .before .raw-refusal .ensures) _ _ _ (λ accepted. omega (arith, c .if1 .taken))
     (ap (λ (n : ℕ). Refused n (c .before .before .before .args .r)) (c .before .raw-refusal .ensures)))
 
 translate-requires : tie.Need-translate-requires

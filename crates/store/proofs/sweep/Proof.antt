@@ -46,11 +46,10 @@ loop-less c = omega arith
 loop-again : tie.Need-loop-again Inv-loop μ-loop
 loop-again c =
     let so-far = c .before .before .before .before .before .before .before .before .loop .inv in
-    let below = c .before .before .before .before .before .before .before .loop-test .taken in
     let entry = c .before .before .before .before .before .slot-at .ensures in
     let test = c .before .before .before .before .kept .ensures in
     let settled = c .before .before .settle .ensures in
-    sweep-turn _ _ _ _ _ so-far _ _ below entry test _ _ (settled .1) (settled .0)
+    sweep-turn _ _ _ _ _ so-far _ _ (omega arith) entry test _ _ (settled .1) (settled .0)
 
 same-length : tie.Need-same-length Inv-loop μ-loop
 same-length c = same-run _ _ _ _ _ (c .before .loop .inv) _ _ refl refl (c .before .before .before .before .pre .0)
