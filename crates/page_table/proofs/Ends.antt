@@ -74,9 +74,9 @@ end-fits words vpn (suc n) at page l inside fits =
     go false q e ih = stops
 
 -- where a tree's walk ends and what it answers, as the code has it
-pub tree-fits : (words : List ℕ) (vpn root end : ℕ) → vpn < 524288 → root < length words → root < 4294967296
-    → end ≡ endOf words vpn 2 root → EndFits words end
-tree-fits words vpn root end page inside fits e = rw e (end-fits words vpn 2 root page (omega arith) inside fits)
+pub tree-fits : (words : List ℕ) (vpn levels root end : ℕ) → end ≡ endOf words vpn levels root → vpn < 524288 → levels ≤ 2
+    → root < length words → root < 4294967296 → EndFits words end
+tree-fits words vpn levels root end e page l inside fits = rw e (end-fits words vpn levels root page l inside fits)
 
 pub tree-ends : (words : List ℕ) (vpn : ℕ) (global : Bool) (root end : ℕ) (r : Walk) → end ≡ endOf words vpn 2 root
     → r ≡ ending words global end → r ≡ walkTree words vpn global root

@@ -36,11 +36,11 @@ module _ (bytes : List ℕ) (vpn levels word at : ℕ) (more : levels ≡ 0 → 
 module _ (bytes : List ℕ) (vpn root end : ℕ) (page : vpn < 524288) (h : root < length (wordsOf bytes)) (fits : root < 4294967296)
     (ends : end ≡ endOf (wordsOf bytes) vpn 2 root) where
   pub end-word : (end % 4 ≤ 2) × (4 * (end / 4) + 4 ≤ length bytes) × (end / 4 < 4294967296)
-  end-word = let e = tree-fits (wordsOf bytes) vpn root end page h fits ends in (e .0, word-inside bytes (end / 4) (e .1), e .2)
+  end-word = let e = tree-fits (wordsOf bytes) vpn 2 root end ends page (omega arith) h fits in (e .0, word-inside bytes (end / 4) (e .1), e .2)
 
   pub end-says : (global : Bool) (word : ℕ) (r : Walk) → word ≡ elementAt 4 bytes (end / 4) → r ≡ decided global (end % 4) word (end / 4)
       → r ≡ walkTree (wordsOf bytes) vpn global root
   unfolding ending
   end-says global word r read given =
-      let stands = word-stands bytes (end / 4) word (tree-fits (wordsOf bytes) vpn root end page h fits ends .1) read in
+      let stands = word-stands bytes (end / 4) word (tree-fits (wordsOf bytes) vpn 2 root end ends page (omega arith) h fits .1) read in
       tree-ends (wordsOf bytes) vpn global root end r ends (given ∙ ap (λ (w : ℕ). decided global (end % 4) w (end / 4)) stands)

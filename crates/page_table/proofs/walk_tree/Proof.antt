@@ -17,7 +17,7 @@ descend-requires c κs = search needs
 ended-requires : tie.Need-ended-requires
 ended-requires c κs =
     let start = c .before .before .before .before in
-    tree-fits _ _ _ _ (start .pre .0) (start .pre .1) (omega arith) (c .descend .ensures)
+    tree-fits _ _ _ _ _ (c .descend .ensures) (start .pre .0) (omega arith) (start .pre .1) (omega arith)
 
 returns : tie.Need-returns
 returns c = tree-ends _ _ _ _ _ _ (c .before .descend .ensures) (c .ended .ensures)
