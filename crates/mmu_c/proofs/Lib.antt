@@ -6,3 +6,5 @@ pub mod RawLaws
 pub mod ServedLaws
 pub mod StoreLaws
 pub mod FaultAnswers
+pub mod StartLaws
+pub mod SettingLaws

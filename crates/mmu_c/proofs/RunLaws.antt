@@ -16,16 +16,16 @@ use Rattle.registers.proofs.Fields.{to-from}
 use Rattle.registers.specs.declared.Registers.{Registers}
 use Rattle.store.specs.TableStore.{indexFits}
 use Rattle.table_bytes.specs.TableBytes.{wordsOf}
-use Rattle.mmu_c.specs.Runs.{registersOf, registerBytes, registersTaken, bufferTaken, lengthTaken, tablesTaken}
+use Rattle.mmu_c.specs.Runs.{registersOf, registerBytes, registersLong, registersTaken, bufferTaken, lengthTaken, tablesTaken}
 
 -- the two ways through the test of the registers' bytes, and what it tells
 pub taken-other : (bytes : List ℕ) → (length bytes ≡ 44 → ⊥) → false ≡ registersTaken bytes
-unfolding registersTaken
+unfolding registersTaken registersLong
 taken-other bytes h = sym (rw (ne-eqb (length bytes) 44 h))
 
 pub taken-long : (bytes : List ℕ) (r : Registers) (t : Bool) → length bytes ≡ 44 → r ≡ registersOf bytes → t ≡ registersFit r
     → t ≡ registersTaken bytes
-unfolding registersTaken
+unfolding registersTaken registersLong
 taken-long bytes r t h q e = e ∙ ap registersFit q ∙ sym (rw (eq-eqb (length bytes) 44 h))
 
 -- so the refusals of a call start
@@ -38,7 +38,7 @@ pub long-refusal : (bytes : List ℕ) (r : Registers) (later : ℕ) → length b
 long-refusal bytes r later h q = ap (λ (t : Bool). refuseUnless t 1 later) (taken-long bytes r (registersFit r) h q refl)
 
 pub registers-told : (bytes : List ℕ) → registersTaken bytes ≡ true → (length bytes ≡ 44) × (registersFit (registersOf bytes) ≡ true)
-unfolding registersTaken
+unfolding registersTaken registersLong
 registers-told bytes h =
     let t = both (eqb (length bytes) 44) (registersFit (registersOf bytes)) h in
     (eqb-true (length bytes) 44 (t .0), t .1)

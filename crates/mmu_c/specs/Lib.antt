@@ -4,4 +4,6 @@ pub mod Location
 pub mod RawAccess
 pub mod ServedAccess
 pub mod TableStore
+pub mod Start
+pub mod GuardedSetting
 pub mod FaultAnswers

@@ -26,9 +26,13 @@ bufferOf bytes = Wide (decoded 8 bytes 64)
 unfoldable pub bufferBytes : Buffer → List ℕ
 bufferBytes (Wide numbers) = encoded 8 numbers
 
--- "a wrong byte length is number 1 for the registers", and so is a field that exceeds its bits
+-- "a wrong byte length is number 1 for the registers"
+unfoldable pub registersLong : (bytes : List ℕ) → Bool
+registersLong bytes = eqb (length bytes) 44
+
+-- and so is a field that exceeds its bits
 unfoldable pub registersTaken : (bytes : List ℕ) → Bool
-registersTaken bytes = eqb (length bytes) 44 && registersFit (registersOf bytes)
+registersTaken bytes = registersLong bytes && registersFit (registersOf bytes)
 
 -- "2 for the buffer"
 unfoldable pub bufferTaken : (bytes : List ℕ) → Bool

@@ -1,6 +1,8 @@
 // What a C host calls. Registers, buffer and tables are bytes, most significant first; an answer is one number of 64 bits.
+pub mod guarded_setting;
 pub mod raw_access;
 pub mod served_access;
+pub mod start;
 pub mod table_store;
 
 ghost use mathlib.Core.Bool.{true};
@@ -10,13 +12,15 @@ ghost use lib.ListN.{length};
 ghost use Rattle.runs.specs.Bits.{bit};
 ghost use Rattle.entry.specs.Address.{vpnOf};
 ghost use Rattle.access.specs.Translation.{Accepted, translate};
-ghost use Rattle.mmu_c.specs.Answers.{accessAnswer, refusalAnswer, translationAnswer};
+ghost use Rattle.mmu_c.specs.Answers.{accessAnswer, outcomeFits, refusalAnswer, replyAnswer, translationAnswer};
 ghost use Rattle.mmu_c.specs.Location.{Fetched};
 ghost use Rattle.mmu_c.specs.Runs.{bufferOf, bufferTaken, registerBytes, registersOf, registersTaken, tablesTaken};
 use access::Physical;
 use access::Translation;
 use registers::Access;
+use registers::Outcome;
 use registers::Registers;
+use registers::Reply;
 
 // The weights of the answer's fields.
 const BIT_32: u64 = 4294967296;
@@ -75,6 +79,20 @@ fn translation_answer(t: Translation) -> u64
             t.exception,
         ),
         Physical::None => access_answer(0, t.value, 0, false, t.interrupt, t.exception),
+    }
+}
+
+// The bits of a reply's answer.
+fn reply_answer(reply: Reply) -> u64
+    requires { ⌜ (outcomeFits (reply .outcome) ≡ true) × (reply .loads < 16) ⌝ }
+    ensures { λ n. ⌜ n ≡ replyAnswer reply ⌝ }
+{
+    let outcome = reply.outcome;
+    match outcome {
+        Outcome::At(address) => access_answer(address, 0, reply.loads, true, false, false),
+        Outcome::Fault(value) => access_answer(0, value, reply.loads, false, false, true),
+        Outcome::Done(emptied) => emptied as u64,
+        Outcome::Refused(number) => refusal_answer(number),
     }
 }
 

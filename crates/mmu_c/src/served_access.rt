@@ -9,31 +9,16 @@ ghost use Rattle.registers.specs.Refusals.{refuseUnless};
 ghost use Rattle.access.specs.Translation.{Accepted, translate};
 ghost use Rattle.mmu.specs.ServedAccess.{serviceRefusal};
 ghost use Rattle.table_bytes.specs.TableBytes.{wordsOf};
-ghost use Rattle.mmu_c.specs.Answers.{outcomeFits, replyAnswer};
 ghost use Rattle.mmu_c.specs.Location.{Fetched, putBack};
 ghost use Rattle.mmu_c.specs.Runs.{bufferOf, bufferTaken, tablesTaken};
 ghost use Rattle.mmu_c.specs.ServedAccess.{AccessGivesBytes, ServedAccessGives};
 use access::Translation;
 use registers::Access;
-use registers::Outcome;
 use registers::Registers;
 use registers::Reply;
 
 // The exception value of a miss.
 const MISS: u32 = 8;
-
-fn reply_answer(reply: Reply) -> u64
-    requires { ⌜ (outcomeFits (reply .outcome) ≡ true) × (reply .loads < 16) ⌝ }
-    ensures { λ n. ⌜ n ≡ replyAnswer reply ⌝ }
-{
-    let outcome = reply.outcome;
-    match outcome {
-        Outcome::At(address) => crate::access_answer(address, 0, reply.loads, true, false, false),
-        Outcome::Fault(value) => crate::access_answer(0, value, reply.loads, false, false, true),
-        Outcome::Done(emptied) => emptied as u64,
-        Outcome::Refused(number) => crate::refusal_answer(number),
-    }
-}
 
 // The refusal once the registers are 44 bytes.
 fn served_refusal(r: Registers, buffer: &[u8], tables: &[u8], a: Access) -> u32
@@ -118,7 +103,7 @@ fn served_with(
     let reply = serve(r, first, buffer, tables, slots, a);
     let after = reply.registers;
     crate::put_registers(registers, after);
-    reply_answer(reply)
+    crate::reply_answer(reply)
 }
 
 // One served access.

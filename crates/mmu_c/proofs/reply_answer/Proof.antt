@@ -2,8 +2,8 @@ use mathlib.Core.Path.{refl}
 use native.Mathlib.Omega.{arith}
 use Rattle.mmu_c.proofs.AnswerLaws.{answer-at, answer-fault, answer-done, answer-refused, fault-room, refused-room}
 use borrow.Author.Needs.{needs}
-use Rattle.mmu_c.proofs.served_access.reply_answer.Statement.{statement}
-use Rattle.mmu_c.proofs.served_access.reply_answer.Tie as tie
+use Rattle.mmu_c.proofs.reply_answer.Statement.{statement}
+use Rattle.mmu_c.proofs.reply_answer.Tie as tie
 
 enum-known-outcome : tie.Need-enum-known-outcome
 enum-known-outcome c = search needs
