@@ -76,7 +76,7 @@ use Rattle.examples.specs.Stores.{entryOf, agreeing, sweeps, numbers, st
 use Rattle.examples.specs.Pools.{poolOf, three, poolCalls, pageLoaded, mapped, maps, asked, history, histories}
 use Rattle.examples.specs.Ends.{last, ends}
 use Rattle.examples.specs.Sequences.{lent, fresh, worked, workedLines, strays, strayLines, outcomes}
-use Rattle.examples.specs.Sequences.{outcomeLines, sequences}
+use Rattle.examples.specs.Sequences.{outcomeLines, changes, changeLines, sequences}
 use Rattle.examples.specs.Traces.{workedInput, workedText, traces}
 use Rattle.examples.specs.Reports.{reports}
 use Rattle.examples.specs.Examples.{examples}
@@ -100,7 +100,7 @@ unfolding all count lowest vpnOf offsetOf location vpn15Of slotOf setOf unpack j
     triedReply missed loadedAt registersLoaded bufferLoaded afterMiss bufferAfterMiss firstTry walkFor accessReply accessBuffer servedReply
     servedBuffer isGuarded switchFits settingRefusal argumentRefusal settingReply refusal accepted effectBy requestOf effectOf leftBy callOn
     begun systemAfter callOf eventOf eventsOf linesOf machine agedEntry aged reading served entryOf agreeing sweeps numbers stores
-    guardedSettings last ends lent fresh worked workedLines strays strayLines outcomes outcomeLines sequences bytesOf numberAt elementAt
+    guardedSettings last ends lent fresh worked workedLines strays strayLines outcomes outcomeLines changes changeLines sequences bytesOf numberAt elementAt
     encoded kindOf userOf writeOf drawOf indexOf valueOf isPlain wellFormed settingNumbers settingOf accessOf askedBy commandOf commandAt
     commandsFrom recordCount commandsOf stepReply bufferAfterStep wordsAfterStep machineAfterStep ascii digit digits lengthWithin
     decimalLength decimal hex wordOf headOf lineOf lineValue traceLines startMachine traceText workedInput workedText traces signed

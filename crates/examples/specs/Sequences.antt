@@ -176,8 +176,66 @@ outcomeLines =
     ∷ line (Refused 7) 0
     ∷ []
 
+-- page 1 of identification 5, whose leaf changes while its entry stands in the buffer: each store empties the entry's slot
+unfoldable pub changes : List Ask
+changes =
+    store 0x5 0x80000001
+    ∷ store 0x200 0x80000001
+    ∷ store 0x401 0xD0000777
+    ∷ setting CONTEXT 5
+    ∷ setting CTRL 7
+    ∷ setting ENABLE 1
+    -- loaded, then a hit
+    ∷ access (user false 0x2ABC 2)
+    ∷ access (user false 0x2ABC 0)
+    -- another frame: its address
+    ∷ store 0x401 0xD0000456
+    ∷ access (user false 0x2ABC 1)
+    -- removed: absent at the leaf
+    ∷ store 0x401 0
+    ∷ access (user false 0x2ABC 1)
+    -- back again and loaded, then aged: the invalid page's exception, at the load and at the hit
+    ∷ store 0x401 0xD0000777
+    ∷ access (user false 0x2ABC 3)
+    ∷ store 0x401 0x90000777
+    ∷ access (user false 0x2ABC 3)
+    ∷ access (user false 0x2ABC 3)
+    -- a kernel page without we: with the two others
+    ∷ store 0x401 0xA0000777
+    ∷ access (user true 0x2ABC 0)
+    -- inv_exc off: a final miss
+    ∷ setting CTRL 3
+    ∷ access (user true 0x2ABC 0)
+    ∷ []
+
+unfoldable pub changeLines : List Line
+changeLines =
+    line (Done 0) 0
+    ∷ line (Done 0) 0
+    ∷ line (Done 0) 0
+    ∷ line (Done 0) 0
+    ∷ line (Done 0) 0
+    ∷ line (Done 0) 0
+    ∷ line (At 0x00EEEABC) 1
+    ∷ line (At 0x00EEEABC) 0
+    ∷ line (Done 1) 0
+    ∷ line (At 0x008ACABC) 1
+    ∷ line (Done 1) 0
+    ∷ line (Fault 0x310) 0
+    ∷ line (Done 0) 0
+    ∷ line (At 0x00EEEABC) 1
+    ∷ line (Done 1) 0
+    ∷ line (Fault 4) 1
+    ∷ line (Fault 4) 0
+    ∷ line (Done 1) 0
+    ∷ line (Fault 7) 1
+    ∷ line (Done 0) 0
+    ∷ line (Fault 8) 1
+    ∷ []
+
 unfoldable pub sequences : List Example
 sequences =
     (linesOf (eventsOf (fresh 16384) worked) gives workedLines)
     ∷ (linesOf (eventsOf (fresh 2048) (outcomes ++ strays)) gives outcomeLines ++ strayLines)
+    ∷ (linesOf (eventsOf (fresh 2048) changes) gives changeLines)
     ∷ []

@@ -1,8 +1,8 @@
 -- Demand 3 is not empty: any list of requests, each handed the current machine, with any refused calls between them, is such a sequence.
 -- Assumes nothing.
 use Prim.Native.Nat.{ℕ}
-use mathlib.Core.Path.{_≡_, refl}
-use mathlib.Core.Bool.{true}
+use mathlib.Core.Path.{_≡_, refl, ap, _∙_}
+use mathlib.Core.Bool.{Bool, true, false}
 use mathlib.Core.List.{List, [], _∷_}
 use Rattle.runs.proofs.Bools.{clash}
 use Rattle.page_table.specs.Stretches.{tablesFit}
@@ -12,16 +12,17 @@ use Rattle.store.proofs.StoreLaws.{store-gives}
 use Rattle.control.specs.Starting.{startReply, startedBuffer}
 use Rattle.control.proofs.CallLaws.{start-gives, setting-gives}
 use Rattle.mmu.proofs.ServedLaws.{served-gives}
-use Rattle.sequence.specs.Calls.{Call, accepted, handed, Promise, Promised}
+use Rattle.sequence.specs.Calls.{Call, Event, accepted, handed, leftBy, Promise, Promised}
 use Rattle.sequence.specs.Calls.Call.{ServedAccess, TableStore, GuardedSetting}
 use Rattle.sequence.specs.Requests.{Request}
 use Rattle.sequence.specs.Calls.{callOn}
 use Rattle.sequence.specs.Requests.Request.{ToAccess, ToStore, ToSet}
-use Rattle.sequence.specs.Systems.{System, begun}
+use Rattle.sequence.specs.Systems.{System, begun, systemAfter}
 use Rattle.sequence.specs.Demand3.{HoldsThroughout, Handed, HandedThroughout, Demand3}
 use Rattle.sequence.specs.Systems.Moment.{Start}
 use Rattle.sequence.specs.Asks.{Ask, callOf, eventOf, eventsOf, StraysRefused}
 use Rattle.sequence.specs.Asks.Ask.{Now, Stray}
+use Rattle.sequence.proofs.Refusing.{has-no-effect}
 use Rattle.sequence.proofs.Theorem.{demand3}
 
 event-call : (m : Machine) (c : Call) → (eventOf m c) .call ≡ c
@@ -49,6 +50,22 @@ handed-one m c h = record {
   same-machine = rw (event-call m c) h;
   promised = event-promised m c;
 }
+
+-- what a request's call left is the machine of the next moment, refused or not
+pub left-machine : (s : System) (q : Request) → let e = eventOf (s .machine) (callOn (s .machine) q) in leftBy e ≡ (systemAfter s e) .machine
+unfolding systemAfter
+left-machine s q = by-test (accepted (e .call)) refl
+  where
+    e : Event
+    e = eventOf (s .machine) (callOn (s .machine) q)
+
+    by-test : (b : Bool) → accepted (e .call) ≡ b → leftBy e ≡ (systemAfter s e) .machine
+    by-test true ok = rw ok
+    by-test false no′ =
+        (has-no-effect s e no′ (event-promised (s .machine) (callOn (s .machine) q))) .untouched
+        ∙ ap (handed (s .machine)) (event-call (s .machine) (callOn (s .machine) q))
+        ∙ handed-now (s .machine) q
+        ∙ rw no′
 
 pub asked : (s : System) (qs : List Ask) → StraysRefused qs → HandedThroughout s (eventsOf s qs)
 unfolding StraysRefused HandedThroughout eventsOf callOf

@@ -8,3 +8,5 @@ pub mod Refusing
 pub mod Theorem
 pub mod Asking
 pub mod FaultValues
+pub mod Moments
+pub mod Pages

@@ -4,7 +4,9 @@ pub mod Effects
 pub mod Requests
 pub mod Calls
 pub mod Systems
+pub mod Moments
 pub mod Sentences
 pub mod Demand3
 pub mod Asks
 pub mod FaultValues
+pub mod Pages
