@@ -28,7 +28,7 @@ module _ (n : ℕ) (after r : Registers) where
   abbrev setting-reply : Reply
   setting-reply = byRefusal n (done after 0) (refused r n)
 
-  answer-number : replyAnswer setting-reply ≡ refusalAnswer n
+  pub answer-number : replyAnswer setting-reply ≡ refusalAnswer n
   unfolding byRefusal replyAnswer outcomeAnswer refusalAnswer
   answer-number = by-test (eqb n 0) refl
     where

@@ -52,7 +52,7 @@ start-run run e =
     first-run 64 run (omega arith) ∙ ap (λ (r : List ℕ). Wide (emptyRun 64 ++ r)) (ap (λ (n : ℕ). drop n run) (sym e) ∙ drop-length run)
 
 -- so of any two runs
-start-any : (run other : List ℕ) → length run ≡ 64 → length other ≡ 64 → startBuffer (Wide run) ≡ startBuffer (Wide other)
+pub start-any : (run other : List ℕ) → length run ≡ 64 → length other ≡ 64 → startBuffer (Wide run) ≡ startBuffer (Wide other)
 start-any run other e f = start-run run e ∙ sym (start-run other f)
 
 -- ---- the call over words, handed a run that fits

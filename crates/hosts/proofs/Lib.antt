@@ -1,0 +1,6 @@
+pub mod Trips
+pub mod Handed
+pub mod Accesses
+pub mod Stores
+pub mod Settings
+pub mod HostCalls

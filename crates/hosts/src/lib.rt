@@ -1,0 +1,1 @@
+// C hosts under demand 3: definitions and theorems alone.
