@@ -4,3 +4,6 @@ pub mod Accesses
 pub mod Stores
 pub mod Settings
 pub mod HostCalls
+pub mod Start
+pub mod RawAccess
+pub mod Hosts

@@ -1,2 +1,5 @@
 pub mod Bytes
 pub mod HostCalls
+pub mod Start
+pub mod RawAccess
+pub mod Hosts

@@ -25,7 +25,7 @@ use Rattle.sequence.specs.Asks.Ask.{Now, Stray}
 use Rattle.sequence.proofs.Refusing.{has-no-effect}
 use Rattle.sequence.proofs.Theorem.{demand3}
 
-event-call : (m : Machine) (c : Call) → (eventOf m c) .call ≡ c
+pub event-call : (m : Machine) (c : Call) → (eventOf m c) .call ≡ c
 unfolding eventOf
 event-call m (ServedAccess given a) = refl
 event-call m (TableStore given p) = refl
@@ -45,7 +45,7 @@ handed-now m (ToAccess a) = refl
 handed-now m (ToStore p) = refl
 handed-now m (ToSet number value) = refl
 
-handed-one : (m : Machine) (c : Call) → (accepted c ≡ true → handed m c ≡ m) → Handed m (eventOf m c)
+pub handed-one : (m : Machine) (c : Call) → (accepted c ≡ true → handed m c ≡ m) → Handed m (eventOf m c)
 handed-one m c h = record {
   same-machine = rw (event-call m c) h;
   promised = event-promised m c;
