@@ -6,4 +6,7 @@ pub mod Settings
 pub mod HostCalls
 pub mod Start
 pub mod RawAccess
+pub mod AnswerBits
+pub mod Bounds
+pub mod Reading
 pub mod Hosts

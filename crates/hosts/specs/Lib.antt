@@ -2,4 +2,5 @@ pub mod Bytes
 pub mod HostCalls
 pub mod Start
 pub mod RawAccess
+pub mod Reading
 pub mod Hosts

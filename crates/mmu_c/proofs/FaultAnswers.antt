@@ -59,13 +59,13 @@ module _ (value loads n : ℕ) (v : value < 65536) (l : loads < 16)
     not-refused = omega arith;
   }
 
-outcome-read : (outcome : Outcome) (loads : ℕ) → outcomeFits outcome ≡ true → loads < 16
+pub fault-read : (outcome : Outcome) (loads : ℕ) → outcomeFits outcome ≡ true → loads < 16
     → IfFault (FaultRead loads (outcomeAnswer outcome loads)) outcome
 unfolding IfFault outcomeAnswer outcomeFits accessAnswer
-outcome-read (At address) loads fits l = tt
-outcome-read (Fault value) loads fits l = read value loads _ (ltb-true value 65536 fits) l (omega arith)
-outcome-read (Done emptied) loads fits l = tt
-outcome-read (Refused number) loads fits l = tt
+fault-read (At address) loads fits l = tt
+fault-read (Fault value) loads fits l = read value loads _ (ltb-true value 65536 fits) l (omega arith)
+fault-read (Done emptied) loads fits l = tt
+fault-read (Refused number) loads fits l = tt
 
 pub faults-read : FaultsRead
 unfolding servedNumber servedReply byRefusal replyAnswer
@@ -79,5 +79,5 @@ faults-read registers buffer tables a accepted =
           (λ (t : Bool). IfFault (FaultRead ((accessReply m a) .loads)
           (cond t (replyAnswer (accessReply m a)) (refusalAnswer (servedRefusal registers buffer tables a)))) ((accessReply m a) .outcome))
           (sym (eq-eqb (servedRefusal registers buffer tables a) 0 accepted))
-          (outcome-read ((accessReply m a) .outcome) ((accessReply m a) .loads) (fits .0) (fits .1));
+          (fault-read ((accessReply m a) .outcome) ((accessReply m a) .loads) (fits .0) (fits .1));
     }

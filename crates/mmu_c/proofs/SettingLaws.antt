@@ -51,7 +51,7 @@ module _ (n : ℕ) (after r : Registers) where
 -- ---- the ways through the call
 
 module _ (registers : List ℕ) (number value : ℕ) where
-  refusal-lt : settingRefusal registers number value < 256
+  pub refusal-lt : settingRefusal registers number value < 256
   unfolding settingRefusal argumentRefusal
   refusal-lt = refusal-room (registersTaken registers) 1 _ (omega arith)
       (refusal-room (switchFits number value) 5 _ (omega arith)
