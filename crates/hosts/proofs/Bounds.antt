@@ -1,9 +1,8 @@
 -- What an answer carries has room in its bits. Assumes nothing.
-use Prim.Native.Nat.{ℕ, zero, suc, _+_, _-_, _*_, _/_, _%_, _^_, _<_}
-use mathlib.Core.Path.{_≡_, refl, sym, ap, _∙_, subst}
-use mathlib.Core.Bool.{Bool, true, false, cond, not, _&&_, _||_}
+use Prim.Native.Nat.{ℕ, zero, suc, _+_, _-_, _*_, _^_, _<_}
+use mathlib.Core.Path.{_≡_, refl}
+use mathlib.Core.Bool.{Bool, true, false, cond, _||_}
 use native.Mathlib.Omega.{arith}
-use native.Mathlib.Nat.{mod-lt}
 use lib.Dec.{eqb, ltb}
 use Rattle.runs.specs.Bits.{bits}
 use Rattle.runs.proofs.Bits.{bits-wide}
@@ -19,14 +18,13 @@ use Rattle.page_table.specs.declared.Walk.the-variants.{Leaf, Absent, Broken}
 use Rattle.slots.specs.Buffer.{Buffer}
 use Rattle.tlb.specs.Search.{fieldsAt, hitCount}
 use Rattle.access.specs.Segments.{inLinearSegment, nibble, segmentOf, segmentBase, linearAddress}
-use Rattle.access.specs.Exceptions.{invExc, MISS}
+use Rattle.access.specs.Exceptions.{invExc}
 use Rattle.access.specs.Translation.{isSet, pageAddress, noException, exceptionAddress, exceptionAnswer, hitValue, onHit, byHitCount}
 use Rattle.access.specs.Translation.{foundSet, pageMapped, translate}
 use Rattle.access.specs.declared.Physical.{Physical}
 use Rattle.access.specs.declared.Physical.the-variants.{Address, None}
-use Rattle.access.specs.declared.Translation.{Translation}
 use Rattle.store.specs.Machine.{Machine}
-use Rattle.mmu.specs.ServedAccess.{outcomeOf, triedReply, missed, registersLoaded, bufferLoaded, afterMiss, firstTry, walkFor, accessReply}
+use Rattle.mmu.specs.ServedAccess.{outcomeOf, triedReply, missed, afterMiss, firstTry, walkFor, accessReply}
 
 -- an address has 32 bits
 unfoldable pub Within32 : Physical → Type 0

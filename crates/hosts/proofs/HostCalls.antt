@@ -16,7 +16,7 @@ use Rattle.sequence.specs.Calls.{refusal, leftBy}
 use Rattle.sequence.specs.Asks.{eventOf}
 use Rattle.hosts.specs.Bytes.{Bytes, machineIn}
 use Rattle.hosts.specs.HostCalls.{hostRefusal, hostAccepts, longRight, rightLengths, Typed, handedBytes, HostPromise}
-use Rattle.hosts.specs.HostCalls.{callIn, eventIn, IsUnitCall, HostCallsAreCalls, LeftAlone, RefusedLeaveAll, WrongLengthsRefused}
+use Rattle.hosts.specs.HostCalls.{callIn, eventIn, HostCallsAreCalls, RefusedLeaveAll, WrongLengthsRefused}
 use Rattle.hosts.specs.HostCalls.HostCall.{HostAccess, HostStore, HostSetting}
 use Rattle.hosts.proofs.Handed.{long}
 use Rattle.hosts.proofs.Accesses.{access-refusal, access-answer, access-registers, access-buffer}

@@ -8,10 +8,10 @@ use Rattle.store.specs.Machine.{Machine}
 use Rattle.control.specs.Starting.{startReply, startedBuffer}
 use Rattle.control.proofs.CallLaws.{start-gives}
 use Rattle.table_bytes.specs.TableBytes.{wordsOf}
-use Rattle.mmu_c.specs.Runs.{registersOf, bufferOf, machineOf}
+use Rattle.mmu_c.specs.Runs.{bufferOf, machineOf}
 use Rattle.mmu_c.specs.Answers.{replyAnswer}
 use Rattle.mmu_c.proofs.Locations.{buffer-fits}
-use Rattle.sequence.specs.Calls.{Call, Event, accepted, handed, leftBy}
+use Rattle.sequence.specs.Calls.{Event, accepted, handed, leftBy}
 use Rattle.sequence.specs.Asks.{eventOf}
 use Rattle.sequence.specs.Systems.{System, begun, systemAfter}
 use Rattle.sequence.specs.Demand3.{Demand3, Handed, HandedThroughout}
@@ -22,7 +22,7 @@ use Rattle.hosts.specs.Bytes.{Bytes, machineIn}
 use Rattle.hosts.specs.HostCalls.{HostCall, hostAccepts, rightLengths, handedBytes, callIn, eventIn, IsUnitCall}
 use Rattle.hosts.specs.HostCalls.HostCall.{HostAccess, HostStore, HostSetting}
 use Rattle.hosts.specs.Hosts.{HostEvent, bytesAfter, bytesAfterAll, HostHanded, HostThroughout, unitEvent, systemAfterCall, eventsOf}
-use Rattle.hosts.specs.Hosts.{HostAnswered, AnsweredThroughout, hostSystem, HostIsSequence, Started, HostsAreSequences}
+use Rattle.hosts.specs.Hosts.{HostAnswered, AnsweredThroughout, hostSystem, Started, HostsAreSequences}
 use Rattle.hosts.proofs.Trips.{words-fit}
 use Rattle.hosts.proofs.HostCalls.{host-calls-are-calls, refused-leave-all, wrong-lengths-refused}
 use Rattle.hosts.proofs.Start.{starts-are-starts}

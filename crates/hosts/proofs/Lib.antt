@@ -10,3 +10,4 @@ pub mod AnswerBits
 pub mod Bounds
 pub mod Reading
 pub mod Hosts
+pub mod Pages

@@ -8,7 +8,7 @@ use borrow.Author.Tests.{eqb-true, ne-eqb}
 use native.Mathlib.Omega.{arith}
 use Rattle.runs.proofs.Bools.{both}
 use Rattle.registers.specs.Fields.{registersFit}
-use Rattle.registers.specs.Refusals.{refuseUnless, byRefusal, drawFits}
+use Rattle.registers.specs.Refusals.{byRefusal, drawFits}
 use Rattle.registers.specs.declared.Access.{Access}
 use Rattle.registers.specs.declared.Registers.{Registers}
 use Rattle.registers.proofs.RefusalLaws.{passed}

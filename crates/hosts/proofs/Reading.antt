@@ -1,5 +1,5 @@
 -- What a host reads off the answer of each call. Assumes nothing.
-use Prim.Native.Nat.{ℕ, _/_, _%_, _<_}
+use Prim.Native.Nat.{ℕ, _<_}
 use mathlib.Core.Path.{_≡_, refl, sym, ap, _∙_, subst}
 use mathlib.Core.Bool.{Bool, true, false, cond, not}
 use mathlib.Core.List.{List}
@@ -8,8 +8,8 @@ use lib.Dec.{eqb}
 use borrow.Author.Tests.{eq-eqb, ne-eqb, eqb-true, ltb-true, lt-ltb}
 use Rattle.runs.proofs.Bools.{clash}
 use Rattle.runs.proofs.Counts.{count-le}
-use Rattle.runs.specs.Bits.{bits, flag}
-use Rattle.registers.specs.Refusals.{refuseUnless, byRefusal}
+use Rattle.runs.specs.Bits.{bits}
+use Rattle.registers.specs.Refusals.{byRefusal}
 use Rattle.registers.specs.Replies.{refused, done}
 use Rattle.registers.specs.declared.Access.{Access}
 use Rattle.registers.specs.declared.Outcome.{Outcome}
@@ -28,7 +28,7 @@ use Rattle.control.specs.Setting.{settingReply}
 use Rattle.mmu.specs.ServedAccess.{accessReply, servedReply}
 use Rattle.mmu.specs.FaultValues.{IfFault}
 use Rattle.mmu_c.specs.Runs.{registersOf, bufferOf, registersLong, bufferTaken}
-use Rattle.mmu_c.specs.Answers.{refusalAnswer, rawAnswer, translationAnswer, outcomeAnswer, replyAnswer, outcomeFits}
+use Rattle.mmu_c.specs.Answers.{rawAnswer, translationAnswer, outcomeAnswer, replyAnswer, outcomeFits}
 use Rattle.mmu_c.specs.RawAccess.{rawRefusal, translation, rawNumber}
 use Rattle.mmu_c.specs.Start.{startRefusal, startNumber}
 use Rattle.mmu_c.proofs.FaultAnswers.{fault-read}
@@ -45,7 +45,7 @@ use Rattle.hosts.specs.Bytes.{Bytes, machineIn}
 use Rattle.hosts.specs.HostCalls.{HostCall, hostRefusal, hostAccepts, rightLengths, Typed, HostPromise, callIn, eventIn}
 use Rattle.hosts.specs.HostCalls.HostCall.{HostAccess, HostStore, HostSetting}
 use Rattle.hosts.specs.Reading.{OutcomeRead, AnswersRead, RefusalsRead, StartsRead, LocatedRead, RawRead, RawAccessesRead}
-use Rattle.hosts.proofs.AnswerBits.{AccessRead, access-read, refusal-read, emptied-read}
+use Rattle.hosts.proofs.AnswerBits.{access-read, refusal-read, emptied-read}
 use Rattle.hosts.proofs.Bounds.{Within32, translate-within, AddressWithin, access-address}
 use Rattle.hosts.proofs.HostCalls.{host-calls-are-calls, refused-leave-all, wrong-lengths-refused}
 

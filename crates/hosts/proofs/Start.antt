@@ -1,23 +1,23 @@
 -- A C host's start is the unit's. Assumes nothing.
-use Prim.Native.Nat.{ℕ, zero, suc, _<_}
-use mathlib.Core.Path.{_≡_, refl, sym, ap, _∙_, subst}
+use Prim.Native.Nat.{ℕ, zero, suc}
+use mathlib.Core.Path.{_≡_, refl, ap, _∙_, subst}
 use mathlib.Core.Bool.{true}
 use mathlib.Core.List.{List}
 use native.Mathlib.Omega.{arith}
 use lib.ListN.{getD, replicate, length-replicate}
-use borrow.Author.Tests.{eq-eqb, ne-eqb}
+use borrow.Author.Tests.{ne-eqb}
 use Rattle.runs.specs.Counts.{all}
 use Rattle.wire.specs.Wire.{decoded}
 use Rattle.wire.proofs.Elements.{decoded-length}
 use Rattle.registers.specs.Fields.{toWords, fromWords, field, widths, fitsAt, registersFit, zeroRegisters}
 use Rattle.registers.specs.Refusals.{refuseUnless, byRefusal}
-use Rattle.slots.specs.Buffer.{Buffer, bufferFits}
+use Rattle.slots.specs.Buffer.{Buffer}
 use Rattle.slots.specs.Buffer.Buffer.{Wide}
 use Rattle.slots.specs.Start.{emptyFirst, startBuffer}
 use Rattle.slots.proofs.Start.{start-fits}
 use Rattle.control.specs.Starting.{startReply, startedBuffer}
 use Rattle.control.specs.Starting.{startRefusal as unitRefusal}
-use Rattle.mmu_c.specs.Runs.{registersOf, registerBytes, bufferOf, bufferBytes}
+use Rattle.mmu_c.specs.Runs.{registersOf, bufferOf}
 use Rattle.mmu_c.specs.Answers.{refusalAnswer, outcomeAnswer, replyAnswer}
 use Rattle.mmu_c.specs.Start.{startRefusal, startNumber, startRegisters, startBytes}
 use Rattle.mmu_c.proofs.Locations.{buffer-fits}

@@ -4,3 +4,4 @@ pub mod Start
 pub mod RawAccess
 pub mod Reading
 pub mod Hosts
+pub mod Pages

@@ -1,7 +1,7 @@
 -- What a host reads off the answer of each call, whatever its outcome.
 use Prim.Native.Nat.{ℕ, _^_, _<_}
 use mathlib.Core.Path.{_≡_}
-use mathlib.Core.Bool.{Bool, true, false, _&&_}
+use mathlib.Core.Bool.{true, false}
 use mathlib.Core.List.{List}
 use Rattle.runs.specs.Bits.{bits, flag}
 use Rattle.registers.specs.declared.Access.{Access}

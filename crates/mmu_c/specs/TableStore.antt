@@ -4,7 +4,6 @@ use mathlib.Core.Path.{_≡_}
 use mathlib.Core.List.{List, [], _∷_}
 use Rattle.wire.specs.Wire.{withElement}
 use Rattle.registers.specs.Refusals.{refuseUnless, byRefusal}
-use Rattle.slots.specs.Buffer.{Buffer}
 use Rattle.store.specs.Sweep.{swept, emptied}
 use Rattle.store.specs.Rewrite.{Put, written}
 use Rattle.store.specs.TableStore.{indexFits}
