@@ -6,7 +6,7 @@ use crate::expected::{self, FAULT};
 use crate::fault;
 use crate::outcome::{self, Runs};
 use crate::protocol::{Answer, Call, Request};
-use crate::put::Put;
+use crate::put::{Put, PutInSequence};
 use crate::witness::Witness;
 use std::cell::RefCell;
 use std::marker::PhantomData;
@@ -208,5 +208,11 @@ impl<O: Outcomes> Put for Comparison<O> {
     /// The table run that the program keeps.
     fn tables(&self) -> &[u32] {
         &self.tables
+    }
+}
+
+impl<O: Outcomes> PutInSequence for Comparison<O> {
+    fn put_in_sequence(&mut self, witness: Option<Witness>, request: Request) -> Answer {
+        self.put_before(witness, request)
     }
 }

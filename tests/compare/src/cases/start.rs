@@ -1,7 +1,6 @@
 //! Starts.
 
 use super::state;
-use crate::comparison::Comparison;
 use crate::protocol::{Call, Request};
 use crate::put::Put;
 use crate::random::Random;
@@ -12,12 +11,12 @@ fn request(registers: Registers, buffer: Vec<u64>) -> Request {
 }
 
 /// Every length with good registers and with spoilt ones, which a start never looks at.
-pub fn edges(comparison: &mut Comparison, random: &mut Random) {
+pub fn edges(to: &mut dyn Put, random: &mut Random) {
     for length in 0..=80 {
         let good = state::registers(random);
         let spoilt = state::spoil(random, good);
         for registers in [good, spoilt] {
-            comparison.put(request(registers, state::buffer(random, length)));
+            to.put(request(registers, state::buffer(random, length)));
         }
     }
 }

@@ -30,11 +30,7 @@ impl Case {
             call: request.call,
             runs: Runs {
                 registers: bytes_of_words(&request.registers),
-                buffer: request
-                    .buffer
-                    .iter()
-                    .flat_map(|number| number.to_be_bytes())
-                    .collect(),
+                buffer: bytes_of_numbers(&request.buffer),
                 tables: bytes_of_words(tables),
             },
         }
@@ -45,6 +41,8 @@ impl Case {
             Call::Raw(access) => words_of_access(0, access),
             Call::Served(access) => words_of_access(1, access),
             Call::Store { index, value } => [2, index, value, 0, 0],
+            Call::Start => [3, 0, 0, 0, 0],
+            Call::Setting { number, value } => [4, number, value, 0, 0],
             other => panic!("{other:?} is no C call"),
         };
         let Runs {
@@ -94,6 +92,8 @@ impl Case {
             Call::Store { index, value } => {
                 host::table_store(registers, buffer, tables, index, value)
             }
+            Call::Start => host::start(registers, buffer),
+            Call::Setting { number, value } => host::guarded_setting(registers, number, value),
             other => panic!("{other:?} is no C call"),
         };
         Answer { number, runs }
@@ -117,6 +117,24 @@ impl Case {
 
 pub fn bytes_of_words(words: &[u32]) -> Vec<u8> {
     words.iter().flat_map(|word| word.to_be_bytes()).collect()
+}
+
+pub fn bytes_of_numbers(numbers: &[u64]) -> Vec<u8> {
+    numbers
+        .iter()
+        .flat_map(|number| number.to_be_bytes())
+        .collect()
+}
+
+pub fn words_of_bytes(bytes: &[u8]) -> Vec<u32> {
+    let (words, _) = bytes.as_chunks();
+    words.iter().map(|&word| u32::from_be_bytes(word)).collect()
+}
+
+pub fn numbers_of_bytes(bytes: &[u8]) -> Vec<u64> {
+    let (numbers, _) = bytes.as_chunks();
+    let numbers = numbers.iter();
+    numbers.map(|&number| u64::from_be_bytes(number)).collect()
 }
 
 #[cfg(test)]

@@ -1,7 +1,8 @@
-//! The 64-bit answer of a C call, made from the answer that the same call on numbers gives, and the
-//! fault that a served access's answer tells of.
+//! The 64-bit answer of a C call, made from the answer that the same call on numbers gives and taken
+//! apart to it, and the fault that a served access's answer tells of.
 
-use crate::expected::{AT, DONE, FAULT};
+use super::case::{self, numbers_of_bytes, words_of_bytes};
+use crate::expected::{AT, DONE, FAULT, REFUSED};
 use crate::protocol::{Answer, Call};
 
 /// "Bits 0 to 31 the address, or the slots emptied by a store; 32 to 47 the exception or fault
@@ -20,6 +21,27 @@ pub fn number_of(call: Call, answer: &Answer) -> u64 {
             DONE => value,
             _ => value << 56,
         },
+    }
+}
+
+/// What a call of a sequence on numbers would have answered, but for the tables.
+pub fn answer_of(answer: &case::Answer) -> Answer {
+    let number = answer.number;
+    let low = number as u32;
+    let value = (number >> 32) as u32 & 0xFFFF;
+    let loads = (number >> 48) as u32 & 15;
+    let registers = words_of_bytes(&answer.runs.registers);
+    Answer {
+        words: match number >> 52 {
+            1 => [AT, low, loads, 0],
+            4 => [FAULT, value, loads, 0],
+            0 => [DONE, low, loads, 0],
+            _ => [REFUSED, (number >> 56) as u32, 0, 0],
+        },
+        registers: registers.try_into().expect("the registers are 44 bytes"),
+        pool: None,
+        buffer: numbers_of_bytes(&answer.runs.buffer),
+        tables: Vec::new(),
     }
 }
 

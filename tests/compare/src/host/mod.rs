@@ -1,13 +1,17 @@
 //! The C calls, put to tests/host.
 //!
-//! Every edge case is put whatever the number of cases; random ones fill it up.
+//! Every edge case is put whatever the number of cases, and so are some sequences from a start;
+//! random ones fill it up.
 
 mod case;
 mod comparison;
+mod control;
 mod difference;
+mod grounds;
 mod layout;
 mod lengths;
 mod outcome;
+pub mod words;
 
 use crate::cases;
 use crate::cases::scene::Scene;
@@ -17,16 +21,24 @@ use comparison::Comparison;
 
 pub const CASES: usize = 60_000;
 
+const SEQUENCES: usize = 12;
+const STEPS: usize = 300;
+
 pub fn compare(program: &str, seed: u64, number: usize) -> Result<bool, String> {
     let mut random = Random::new(seed);
     let mut comparison = Comparison::start(program)?;
     cases::c_edges(&mut comparison, &mut random);
     lengths::edges(&mut comparison, &mut random);
+    control::edges(&mut comparison, &mut random);
+    for _ in 0..SEQUENCES {
+        cases::sequence::put(&mut comparison, &mut random, STEPS);
+    }
     let mut scene = Scene::default();
     while comparison.wants_more(number) {
-        match random.one_in(8) {
-            true => comparison.put_case(lengths::random(&mut random)),
-            false => {
+        match random.below(16) {
+            0 => comparison.put_case(control::random(&mut random)),
+            1 | 2 => comparison.put_case(lengths::random(&mut random)),
+            _ => {
                 let tables = comparison.tables();
                 let request = cases::any_c_call(&mut random, &mut scene, tables);
                 comparison.put(request);

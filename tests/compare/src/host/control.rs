@@ -1,0 +1,77 @@
+//! Starts over bytes that held anything, and settings on registers of each kind.
+
+use super::case::{bytes_of_numbers, bytes_of_words, Case, Runs};
+use super::comparison::Comparison;
+use super::lengths::{BUFFERS, REGISTERS};
+use crate::cases::state;
+use crate::protocol::Call;
+use crate::random::Random;
+use reference::FIELD_BITS;
+
+const REGISTER_BYTES: usize = REGISTERS[0];
+const BUFFER_BYTES: usize = BUFFERS[0];
+
+/// Numbers that no setting has, small once cut to fewer bits.
+const NO_SETTING: [u32; 5] = [6, 10, 11, 0x100, 0x1_0005];
+
+pub fn edges(comparison: &mut Comparison, random: &mut Random) {
+    for registers in register_bytes(random) {
+        for buffer in buffer_bytes(random) {
+            comparison.put_case(case(Call::Start, registers.clone(), buffer));
+        }
+        let unknown = NO_SETTING.map(|number| (number, 0));
+        for (number, value) in state::register_values().into_iter().chain(unknown) {
+            let call = Call::Setting { number, value };
+            comparison.put_case(case(call, registers.clone(), Vec::new()));
+        }
+    }
+}
+
+/// A start over any bytes.
+pub fn random(random: &mut Random) -> Case {
+    let registers = any_bytes(random, REGISTER_BYTES);
+    let buffer = any_bytes(random, BUFFER_BYTES);
+    case(Call::Start, registers, buffer)
+}
+
+/// All 0, all fields at their largest value, all bits 1, any bytes.
+fn register_bytes(random: &mut Random) -> [Vec<u8>; 4] {
+    [
+        vec![0; REGISTER_BYTES],
+        bytes_of_words(&FIELD_BITS.map(state::largest)),
+        vec![0xFF; REGISTER_BYTES],
+        any_bytes(random, REGISTER_BYTES),
+    ]
+}
+
+/// All 0, all bits 1, every slot empty but for its unused bits or one slot, any bytes.
+fn buffer_bytes(random: &mut Random) -> Vec<Vec<u8>> {
+    let started = bytes_of_numbers(&state::empty_slots());
+    let mut all = vec![
+        vec![0; BUFFER_BYTES],
+        vec![0xFF; BUFFER_BYTES],
+        any_bytes(random, BUFFER_BYTES),
+        started.clone(),
+    ];
+    all.extend((0..BUFFER_BYTES).map(|byte| {
+        let mut buffer = started.clone();
+        buffer[byte] ^= 1 << random.below(8);
+        buffer
+    }));
+    all
+}
+
+fn any_bytes(random: &mut Random, length: usize) -> Vec<u8> {
+    (0..length).map(|_| random.bits(8) as u8).collect()
+}
+
+fn case(call: Call, registers: Vec<u8>, buffer: Vec<u8>) -> Case {
+    Case {
+        call,
+        runs: Runs {
+            registers,
+            buffer,
+            tables: Vec::new(),
+        },
+    }
+}
