@@ -23,6 +23,11 @@ pub struct Answer {
     pub runs: Runs,
 }
 
+/// What cases are put to whose bytes may hold no whole numbers.
+pub trait PutCase {
+    fn put_case(&mut self, case: Case);
+}
+
 impl Case {
     /// The request with its numbers as bytes; the tables are the run that the call finds.
     pub fn of(request: &Request, tables: &[u32]) -> Case {
@@ -140,6 +145,25 @@ pub fn numbers_of_bytes(bytes: &[u8]) -> Vec<u64> {
 #[cfg(test)]
 mod tests {
     use super::*;
+
+    #[test]
+    fn a_start_and_a_setting_have_their_kinds() {
+        let words_of = |call| {
+            let none = Vec::new;
+            let runs = Runs {
+                registers: none(),
+                buffer: none(),
+                tables: none(),
+            };
+            words_of_bytes(&Case { call, runs }.to_bytes())
+        };
+        assert_eq!(words_of(Call::Start), [3, 0, 0, 0, 0, 0, 0, 0]);
+        let setting = Call::Setting {
+            number: 5,
+            value: 62,
+        };
+        assert_eq!(words_of(setting), [4, 5, 62, 0, 0, 0, 0, 0]);
+    }
 
     #[test]
     fn requests_and_answers_have_their_runs_in_order() {

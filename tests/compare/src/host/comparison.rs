@@ -1,6 +1,6 @@
 //! Puts every C call to both programs.
 
-use super::case::{Answer, Case};
+use super::case::{Answer, Case, PutCase};
 use super::{difference, layout, outcome};
 use crate::exchange::{Exchange, Question, Report};
 use crate::expected;
@@ -87,12 +87,6 @@ impl Comparison {
         self.exchange.wants_more(total)
     }
 
-    /// One call more, on bytes that may hold no whole numbers.
-    pub fn put_case(&mut self, case: Case) {
-        let expected = case.expected();
-        self.ask(case, expected, Vec::new(), None);
-    }
-
     /// Prints the counts; true where every outcome passed.
     pub fn finish(self) -> bool {
         self.exchange.finish()
@@ -126,6 +120,13 @@ impl Comparison {
             true => vec![count as u32; 8],
             false => Vec::new(),
         }
+    }
+}
+
+impl PutCase for Comparison {
+    fn put_case(&mut self, case: Case) {
+        let expected = case.expected();
+        self.ask(case, expected, Vec::new(), None);
     }
 }
 

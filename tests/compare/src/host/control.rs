@@ -1,12 +1,11 @@
 //! Starts over bytes that held anything, and settings on registers of each kind.
 
-use super::case::{bytes_of_numbers, bytes_of_words, Case, Runs};
-use super::comparison::Comparison;
+use super::case::{bytes_of_numbers, bytes_of_words, Case, PutCase, Runs};
 use super::lengths::{BUFFERS, REGISTERS};
 use crate::cases::state;
 use crate::protocol::Call;
 use crate::random::Random;
-use reference::FIELD_BITS;
+use reference::{FIELD_BITS, SLOTS};
 
 const REGISTER_BYTES: usize = REGISTERS[0];
 const BUFFER_BYTES: usize = BUFFERS[0];
@@ -14,15 +13,15 @@ const BUFFER_BYTES: usize = BUFFERS[0];
 /// Numbers that no setting has, small once cut to fewer bits.
 const NO_SETTING: [u32; 5] = [6, 10, 11, 0x100, 0x1_0005];
 
-pub fn edges(comparison: &mut Comparison, random: &mut Random) {
+pub fn edges(to: &mut dyn PutCase, random: &mut Random) {
     for registers in register_bytes(random) {
         for buffer in buffer_bytes(random) {
-            comparison.put_case(case(Call::Start, registers.clone(), buffer));
+            to.put_case(case(Call::Start, registers.clone(), buffer));
         }
         let unknown = NO_SETTING.map(|number| (number, 0));
         for (number, value) in state::register_values().into_iter().chain(unknown) {
             let call = Call::Setting { number, value };
-            comparison.put_case(case(call, registers.clone(), Vec::new()));
+            to.put_case(case(call, registers.clone(), Vec::new()));
         }
     }
 }
@@ -44,7 +43,7 @@ fn register_bytes(random: &mut Random) -> [Vec<u8>; 4] {
     ]
 }
 
-/// All 0, all bits 1, every slot empty but for its unused bits or one slot, any bytes.
+/// All 0, all bits 1, any bytes, every slot empty, and every slot but one.
 fn buffer_bytes(random: &mut Random) -> Vec<Vec<u8>> {
     let started = bytes_of_numbers(&state::empty_slots());
     let mut all = vec![
@@ -53,9 +52,9 @@ fn buffer_bytes(random: &mut Random) -> Vec<Vec<u8>> {
         any_bytes(random, BUFFER_BYTES),
         started.clone(),
     ];
-    all.extend((0..BUFFER_BYTES).map(|byte| {
+    all.extend((0..SLOTS).map(|slot| {
         let mut buffer = started.clone();
-        buffer[byte] ^= 1 << random.below(8);
+        buffer[8 * slot + random.below(8)] ^= 1 << random.below(8);
         buffer
     }));
     all

@@ -61,6 +61,27 @@ mod tests {
     use reference::Access;
 
     #[test]
+    fn an_answer_is_taken_apart_to_that_of_the_call_on_numbers() {
+        for (number, words) in [
+            (0x0011_0000_0000_2ABC, [AT, 0x2ABC, 1, 0]),
+            (0x0041_0008_0000_0000, [FAULT, 8, 1, 0]),
+            (0x0040_1220_0000_0000, [FAULT, 0x1220, 0, 0]),
+            (0x0000_0000_0000_0040, [DONE, 64, 0, 0]),
+            (0x0500_0000_0000_0000, [REFUSED, 5, 0, 0]),
+        ] {
+            let runs = case::Runs {
+                registers: (0..44).collect(),
+                buffer: (1..9).collect(),
+                tables: vec![1],
+            };
+            let answer = answer_of(&case::Answer { number, runs });
+            assert_eq!(answer.words, words, "{number:X}");
+            assert_eq!(answer.registers[10], 0x2829_2A2B);
+            assert_eq!(answer.buffer, [0x0102_0304_0506_0708]);
+        }
+    }
+
+    #[test]
     fn a_fault_is_told_of_by_bit_54_of_a_served_access_that_is_not_refused() {
         let access = Access {
             address: 0,

@@ -1,7 +1,6 @@
 //! C calls with runs of wrong lengths, alone and together, and of every allowed one.
 
-use super::case::{bytes_of_numbers, bytes_of_words, Case, Runs};
-use super::comparison::Comparison;
+use super::case::{bytes_of_numbers, bytes_of_words, Case, PutCase, Runs};
 use crate::cases::{setting, spoil, state};
 use crate::protocol::Call;
 use crate::random::Random;
@@ -24,13 +23,13 @@ const CALLS_OF_A_LENGTH: usize = 8;
 const KINDS: usize = 5;
 const WITH_TABLES: usize = 3;
 
-pub fn edges(comparison: &mut Comparison, random: &mut Random) {
-    alone(comparison, random);
-    together(comparison, random);
+pub fn edges(to: &mut dyn PutCase, random: &mut Random) {
+    alone(to, random);
+    together(to, random);
 }
 
 /// Every length of each run with nothing else wrong, for each call.
-fn alone(comparison: &mut Comparison, random: &mut Random) {
+fn alone(to: &mut dyn PutCase, random: &mut Random) {
     let right = [REGISTERS[0], BUFFERS[0], TABLES[1]];
     let mut all = Vec::new();
     for (run, lengths) in [&REGISTERS[..], &BUFFERS, &TABLES].into_iter().enumerate() {
@@ -54,24 +53,24 @@ fn alone(comparison: &mut Comparison, random: &mut Random) {
                     setting: setting::accepted(random),
                 };
                 let call = arguments.of_call(random, kind);
-                comparison.put_case(case(random, call, registers, lengths));
+                to.put_case(case(random, call, registers, lengths));
             }
         }
     }
 }
 
 /// Every length of each run with every length of the others, for each call that takes them.
-fn together(comparison: &mut Comparison, random: &mut Random) {
+fn together(to: &mut dyn PutCase, random: &mut Random) {
     for registers in REGISTERS {
         for buffer in BUFFERS {
             for tables in TABLES {
                 for kind in 0..WITH_TABLES {
-                    comparison.put_case(any(random, kind, [registers, buffer, tables]));
+                    to.put_case(any(random, kind, [registers, buffer, tables]));
                 }
             }
             for kind in WITH_TABLES..KINDS {
                 for _ in 0..CALLS_OF_A_LENGTH {
-                    comparison.put_case(any(random, kind, [registers, buffer, 0]));
+                    to.put_case(any(random, kind, [registers, buffer, 0]));
                 }
             }
         }

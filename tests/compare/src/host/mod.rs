@@ -11,15 +11,18 @@ mod grounds;
 mod layout;
 mod lengths;
 mod outcome;
+#[cfg(test)]
+mod stand_ins;
 pub mod words;
 
 use crate::cases;
 use crate::cases::scene::Scene;
 use crate::put::Put;
 use crate::random::Random;
+use case::PutCase;
 use comparison::Comparison;
 
-pub const CASES: usize = 60_000;
+pub const CASES: usize = 80_000;
 
 const SEQUENCES: usize = 12;
 const STEPS: usize = 300;

@@ -134,3 +134,48 @@ fn answers(path: &str, input: Vec<u8>, lengths: Vec<usize>) -> Result<Vec<Vec<u8
         .map(<[u8]>::to_vec)
         .collect())
 }
+
+#[cfg(test)]
+mod tests {
+    use super::*;
+    use crate::expected::DONE;
+    use reference::Registers;
+
+    fn answered(call: Call, words: [u32; 4], registers: Registers) -> case::Answer {
+        let handed = Registers {
+            kseg: 0x1234,
+            ..Registers::default()
+        };
+        let answer = Answer {
+            words,
+            registers: registers.to_words(),
+            pool: None,
+            buffer: vec![0x3F80_0000],
+            tables: Vec::new(),
+        };
+        in_bytes(&Request::without_run(call, handed, vec![7]), &answer)
+    }
+
+    #[test]
+    fn an_accepted_start_leaves_the_bytes_of_the_answer_over_words() {
+        let answer = answered(Call::Start, [DONE, 0, 0, 0], Registers::default());
+        assert_eq!(answer.number, 0);
+        assert_eq!(answer.runs.registers, [0; 44]);
+        assert_eq!(answer.runs.buffer, [0, 0, 0, 0, 0x3F, 0x80, 0, 0]);
+    }
+
+    #[test]
+    fn a_refused_start_leaves_the_registers_and_a_refused_setting_those_of_the_answer() {
+        let zero = Registers::default();
+        let answer = answered(Call::Start, [REFUSED, 2, 0, 0], zero);
+        assert_eq!(answer.number, 2 << 56);
+        assert_eq!(answer.runs.registers[..4], [0, 0, 0x12, 0x34]);
+        let setting = Call::Setting {
+            number: 5,
+            value: 63,
+        };
+        let answer = answered(setting, [REFUSED, 5, 0, 0], zero);
+        assert_eq!(answer.number, 5 << 56);
+        assert_eq!(answer.runs.registers, [0; 44]);
+    }
+}
