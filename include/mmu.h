@@ -162,7 +162,7 @@ static inline bool mmu_in_global_tree(uint64_t answer)
     return (answer >> MMU_GLOBAL_TREE_BIT & 1u) != 0;
 }
 
-/* Whether a raw access interrupts; a served access and a store say no. */
+/* Whether a raw access interrupts; every other call says no. */
 static inline bool mmu_interrupts(uint64_t answer)
 {
     return (answer >> MMU_INTERRUPTS_BIT & 1u) != 0;

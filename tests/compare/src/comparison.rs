@@ -114,14 +114,7 @@ impl Asked {
         if let Some(history) = &self.judges.history {
             points.extend(history.borrow_mut().hear(&self.request, got));
         }
-        for (point, holds) in points {
-            report.add(point, holds);
-            if !holds && report.may_print() {
-                println!("at case {}: {:X?}", report.cases, self.request.call);
-                println!("  program answers {:X?}", got.words);
-                println!("  does not hold: {point}");
-            }
-        }
+        report.add_points(points, self.request.call, || format!("{:X?}", got.words));
     }
 }
 

@@ -59,14 +59,7 @@ impl Asked {
         if let Some((witness, request)) = &self.witness {
             points.extend(witness.points(request, &layout::answer_of(got)));
         }
-        for (point, holds) in points {
-            report.add(point, holds);
-            if !holds && report.may_print() {
-                println!("at case {}: {:X?}", report.cases, self.case.call);
-                println!("  program answers {:016X}", got.number);
-                println!("  does not hold: {point}");
-            }
-        }
+        report.add_points(points, self.case.call, || format!("{:016X}", got.number));
     }
 }
 
