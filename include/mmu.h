@@ -13,7 +13,7 @@ extern "C" {
 
 /* The five calls. */
 
-/* Makes all registers 0 and every slot empty, whatever the bytes held before. */
+/* Makes all registers 0 and every slot empty (its set's number as vpn15, page_id 63, all else 0), whatever the bytes held before. */
 uint64_t mmu_start(uint8_t *registers, size_t registers_len,
                    uint8_t *buffer, size_t buffer_len);
 
@@ -190,8 +190,9 @@ static inline uint32_t mmu_get_word(const uint8_t *bytes)
 
 /* Writes the word that begins at this byte.
  *
- * It is for filling the tables before the start. After the start the tables are written by mmu_table_store alone and settings are made
- * by mmu_guarded_setting alone: what is proved of whole sequences of calls speaks of these. */
+ * It is for filling the tables before the start. From the start on the tables are written by mmu_table_store alone and settings are made
+ * by mmu_guarded_setting alone: what is proved of whole sequences of calls speaks of these. The registers' bytes are only read, by
+ * mmu_get_word. */
 static inline void mmu_put_word(uint8_t *bytes, uint32_t word)
 {
     bytes[0] = (uint8_t)(word >> 24);

@@ -134,7 +134,7 @@ pub fn c_edges(to: &mut dyn Put, random: &mut Random) {
 
 /// A random C call.
 pub fn any_c_call(random: &mut Random, scene: &mut Scene, kept: &[u32]) -> Request {
-    match random.below(18) {
+    match random.below(20) {
         0..=5 => raw::random(random),
         6..=10 => served::random(random, scene, kept),
         11..=15 => store::random(random, scene, kept),
@@ -152,6 +152,7 @@ pub fn start_and_setting_edges(to: &mut dyn Put, random: &mut Random) {
 pub fn any_start_or_setting(random: &mut Random) -> Request {
     match random.below(4) {
         0 => start::random(random),
+        1 => start::over_anything(random),
         _ => setting::random(random, 0),
     }
 }

@@ -4,7 +4,7 @@ use super::state;
 use crate::protocol::{Call, Request};
 use crate::put::Put;
 use crate::random::Random;
-use reference::Registers;
+use reference::{Registers, SLOTS};
 
 fn request(registers: Registers, buffer: Vec<u64>) -> Request {
     Request::without_run(Call::Start, registers, buffer)
@@ -28,4 +28,11 @@ pub fn random(random: &mut Random) -> Request {
         _ => state::buffer(random, 64),
     };
     request(registers, buffer)
+}
+
+/// An accepted start over any registers and slots.
+pub fn over_anything(random: &mut Random) -> Request {
+    let words = std::array::from_fn(|_| random.bits(32));
+    let slots = (0..SLOTS).map(|_| random.bits64()).collect();
+    request(Registers::from_words(words), slots)
 }

@@ -10,7 +10,7 @@ use reference::{FIELD_BITS, SLOTS};
 const REGISTER_BYTES: usize = REGISTERS[0];
 const BUFFER_BYTES: usize = BUFFERS[0];
 
-/// Numbers that no setting has, small once cut to fewer bits.
+/// Numbers that no setting has, some of them small once cut to fewer bits.
 const NO_SETTING: [u32; 5] = [6, 10, 11, 0x100, 0x1_0005];
 
 pub fn edges(to: &mut dyn PutCase, random: &mut Random) {
@@ -24,13 +24,6 @@ pub fn edges(to: &mut dyn PutCase, random: &mut Random) {
             to.put_case(case(call, registers.clone(), Vec::new()));
         }
     }
-}
-
-/// A start over any bytes.
-pub fn random(random: &mut Random) -> Case {
-    let registers = any_bytes(random, REGISTER_BYTES);
-    let buffer = any_bytes(random, BUFFER_BYTES);
-    case(Call::Start, registers, buffer)
 }
 
 /// All 0, all fields at their largest value, all bits 1, any bytes.

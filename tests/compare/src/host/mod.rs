@@ -38,10 +38,9 @@ pub fn compare(program: &str, seed: u64, number: usize) -> Result<bool, String> 
     }
     let mut scene = Scene::default();
     while comparison.wants_more(number) {
-        match random.below(16) {
-            0 => comparison.put_case(control::random(&mut random)),
-            1 | 2 => comparison.put_case(lengths::random(&mut random)),
-            _ => {
+        match random.one_in(8) {
+            true => comparison.put_case(lengths::random(&mut random)),
+            false => {
                 let tables = comparison.tables();
                 let request = cases::any_c_call(&mut random, &mut scene, tables);
                 comparison.put(request);

@@ -1,5 +1,5 @@
 //! The start and the guarded setting over bytes, by tests/host, compared with the calls over words,
-//! by the program `probe`. Both are proved programs: the second program only names the outcomes.
+//! by the program `probe`. The second program only names the outcomes.
 
 use super::case::{self, bytes_of_numbers, bytes_of_words, Case};
 use super::{difference, layout};
