@@ -33,15 +33,28 @@ static void put_table_word(uint32_t index, uint32_t word)
     mmu_put_word(unit.tables + 4 * index, word);
 }
 
-static void set_up(void)
+/* Whether the call was accepted. */
+static bool accepted(const char *step, uint64_t answer)
+{
+    printf("%s: refusal %" PRIu32 "\n", step, mmu_refusal(answer));
+    return mmu_refusal(answer) == 0;
+}
+
+static bool set(const char *step, uint32_t number, uint32_t value)
+{
+    return accepted(step, mmu_guarded_setting(unit.registers, sizeof unit.registers, number, value));
+}
+
+/* Whether the unit is ready: the tables filled, the start and every setting accepted. */
+static bool set_up(void)
 {
     put_table_word(PROGRAM, MMU_PRESENT | DIRECTORY);
     put_table_word(512 * DIRECTORY, MMU_PRESENT | TABLE);
     put_table_word(leaf_index, leaf);
-    mmu_start(unit.registers, unit.buffer);
-    mmu_put_word(unit.registers + MMU_AT_CONTEXT, PROGRAM);
-    mmu_put_word(unit.registers + MMU_AT_CTRL, MMU_INV_EXC | MMU_ACC_EXC | MMU_WE_EXC);
-    mmu_put_word(unit.registers + MMU_AT_ENABLE, 1);
+    return accepted("start", mmu_start(unit.registers, sizeof unit.registers, unit.buffer, sizeof unit.buffer)) &&
+           set("CONTEXT 5", MMU_CONTEXT, PROGRAM) &&
+           set("CTRL 7", MMU_CTRL, MMU_INV_EXC | MMU_ACC_EXC | MMU_WE_EXC) &&
+           set("ENABLE 1", MMU_ENABLE, 1);
 }
 
 /* The kind of a fault and, where a walk stopped without a leaf, the level and the tree of the word that decided. */
@@ -103,21 +116,33 @@ static void print_cause(const char *step)
            mmu_get_word(unit.registers + MMU_AT_SELECT));
 }
 
-/* A buffer of the wrong length, in a store that would have brought the page back. */
-static void refused_store(const char *step)
+/* What a refused call says, and whether it left the unit as it was before. */
+static void print_refused(const char *step, uint64_t answer)
 {
-    uint64_t answer;
-
-    before = unit;
-    answer = mmu_table_store(unit.registers, sizeof unit.registers, unit.buffer, sizeof unit.buffer - 1,
-                             unit.tables, sizeof unit.tables, leaf_index, leaf);
     printf("%s: refusal %" PRIu32 ", bytes %s\n", step, mmu_refusal(answer),
            memcmp(&before, &unit, sizeof unit) == 0 ? "as before" : "changed");
 }
 
+/* An identification that no program has. */
+static void refused_setting(const char *step)
+{
+    before = unit;
+    print_refused(step, mmu_guarded_setting(unit.registers, sizeof unit.registers, MMU_CONTEXT, 63));
+}
+
+/* A buffer of the wrong length, in a store that would have brought the page back. */
+static void refused_store(const char *step)
+{
+    before = unit;
+    print_refused(step, mmu_table_store(unit.registers, sizeof unit.registers, unit.buffer, sizeof unit.buffer - 1,
+                                        unit.tables, sizeof unit.tables, leaf_index, leaf));
+}
+
 int main(void)
 {
-    set_up();
+    if (!set_up())
+        return 1;
+    refused_setting("CONTEXT 63");
     served("first read, a miss", false);
     served("second read, a hit", false);
     served("write", true);

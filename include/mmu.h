@@ -11,7 +11,15 @@
 extern "C" {
 #endif
 
-/* The three calls. */
+/* The five calls. */
+
+/* Makes all registers 0 and every slot empty (its set's number as vpn15, page_id 63, all else 0), whatever the bytes held before. */
+uint64_t mmu_start(uint8_t *registers, size_t registers_len,
+                   uint8_t *buffer, size_t buffer_len);
+
+/* Gives one of the registers KSEG to CONTEXT a value that it takes; CONTEXT takes 0 to 62. */
+uint64_t mmu_guarded_setting(uint8_t *registers, size_t registers_len,
+                             uint32_t number, uint32_t value);
 
 /* One access by the registers and the buffer alone; it may write the registers. */
 uint64_t mmu_raw_access(uint8_t *registers, size_t registers_len,
@@ -38,6 +46,15 @@ uint64_t mmu_table_store(const uint8_t *registers, size_t registers_len,
 #define MMU_TABLE_BYTES_MAX 65536 /* The tables have at most this many bytes. */
 #define MMU_TABLE_BYTES_STEP 4096 /* The tables' length is a multiple of this. */
 #define MMU_SLOTS 64              /* The buffer has four sets of sixteen slots. */
+
+/* The numbers of the registers that mmu_guarded_setting sets. */
+
+#define MMU_KSEG 0     /* It takes 0 to 0xFFFF. */
+#define MMU_CTRL 1     /* It takes 0 to 7, its three bits added up. */
+#define MMU_ENABLE 2   /* It takes 0 and 1. */
+#define MMU_KBASE_LO 3 /* It takes any 32 bits. */
+#define MMU_KBASE_HI 4 /* It takes any 32 bits. */
+#define MMU_CONTEXT 5  /* It takes 0 to 62. */
 
 /* The byte at which each register begins. */
 
@@ -145,7 +162,7 @@ static inline bool mmu_in_global_tree(uint64_t answer)
     return (answer >> MMU_GLOBAL_TREE_BIT & 1u) != 0;
 }
 
-/* Whether a raw access interrupts; a served access and a store say no. */
+/* Whether a raw access interrupts; every other call says no. */
 static inline bool mmu_interrupts(uint64_t answer)
 {
     return (answer >> MMU_INTERRUPTS_BIT & 1u) != 0;
@@ -173,28 +190,15 @@ static inline uint32_t mmu_get_word(const uint8_t *bytes)
 
 /* Writes the word that begins at this byte.
  *
- * A setting written so into the registers is the host's own: nothing checks it before the next call. What is proved of whole
- * sequences of calls speaks of KSEG, CTRL, ENABLE, KBASE_LO, KBASE_HI and CONTEXT alone, of values within their bits, and of
- * CONTEXT 0 to 62. After the start the tables are written by mmu_table_store alone. */
+ * It is for filling the tables before the start. From the start on the tables are written by mmu_table_store alone and settings are made
+ * by mmu_guarded_setting alone: what is proved of whole sequences of calls speaks of these. The registers' bytes are only read, by
+ * mmu_get_word. */
 static inline void mmu_put_word(uint8_t *bytes, uint32_t word)
 {
     bytes[0] = (uint8_t)(word >> 24);
     bytes[1] = (uint8_t)(word >> 16);
     bytes[2] = (uint8_t)(word >> 8);
     bytes[3] = (uint8_t)word;
-}
-
-/* The start. */
-
-/* Makes all registers 0 and every slot empty: its set's number as vpn15, page_id 63, all else 0. */
-static inline void mmu_start(uint8_t registers[MMU_REGISTER_BYTES], uint8_t buffer[MMU_BUFFER_BYTES])
-{
-    for (size_t byte = 0; byte < MMU_REGISTER_BYTES; byte += 4)
-        mmu_put_word(registers + byte, 0);
-    for (size_t slot = 0; slot < MMU_SLOTS; slot++) {
-        mmu_put_word(buffer + 8 * slot, 0);
-        mmu_put_word(buffer + 8 * slot + 4, (uint32_t)(slot / 16) << 29 | 63u << 23);
-    }
 }
 
 #ifdef __cplusplus

@@ -8,11 +8,11 @@
 
 #include "mmu.h"
 
-enum { RAW_ACCESS, SERVED_ACCESS, TABLE_STORE, KINDS };
+enum { RAW_ACCESS, SERVED_ACCESS, TABLE_STORE, START, GUARDED_SETTING, KINDS };
 enum { REGISTERS, BUFFER, TABLES, RUNS };
 enum { HEAD_WORDS = 8, FIRST_LENGTH = 5, BLOCK = 1 << 18 };
 
-static const uint32_t most_bytes[RUNS] = {64, 640, 131072};
+static const uint32_t most_bytes[RUNS] = {640, 640, 131072};
 
 struct run {
     uint8_t *bytes;
@@ -86,9 +86,13 @@ static uint64_t make_call(struct request *request)
         return mmu_served_access(registers.bytes, registers.length, buffer.bytes, buffer.length,
                                  tables.bytes, tables.length,
                                  given[0], given[1] != 0, given[2] != 0, given[3]);
-    default:
+    case TABLE_STORE:
         return mmu_table_store(registers.bytes, registers.length, buffer.bytes, buffer.length,
                                tables.bytes, tables.length, given[0], given[1]);
+    case START:
+        return mmu_start(registers.bytes, registers.length, buffer.bytes, buffer.length);
+    default:
+        return mmu_guarded_setting(registers.bytes, registers.length, given[0], given[1]);
     }
 }
 

@@ -6,7 +6,7 @@ use crate::expected::{self, FAULT};
 use crate::fault;
 use crate::outcome::{self, Runs};
 use crate::protocol::{Answer, Call, Request};
-use crate::put::Put;
+use crate::put::{Put, PutInSequence};
 use crate::witness::Witness;
 use std::cell::RefCell;
 use std::marker::PhantomData;
@@ -114,14 +114,7 @@ impl Asked {
         if let Some(history) = &self.judges.history {
             points.extend(history.borrow_mut().hear(&self.request, got));
         }
-        for (point, holds) in points {
-            report.add(point, holds);
-            if !holds && report.may_print() {
-                println!("at case {}: {:X?}", report.cases, self.request.call);
-                println!("  program answers {:X?}", got.words);
-                println!("  does not hold: {point}");
-            }
-        }
+        report.add_points(points, self.request.call, || format!("{:X?}", got.words));
     }
 }
 
@@ -208,5 +201,11 @@ impl<O: Outcomes> Put for Comparison<O> {
     /// The table run that the program keeps.
     fn tables(&self) -> &[u32] {
         &self.tables
+    }
+}
+
+impl<O: Outcomes> PutInSequence for Comparison<O> {
+    fn put_in_sequence(&mut self, witness: Option<Witness>, request: Request) -> Answer {
+        self.put_before(witness, request)
     }
 }

@@ -1,6 +1,8 @@
 //! Requests put to the program under test, and what came of them.
 
+use crate::comparison::Points;
 use crate::program::Program;
+use crate::protocol::Call;
 use crate::tally::Tally;
 use std::collections::VecDeque;
 
@@ -27,6 +29,18 @@ pub struct Report {
 impl Report {
     pub fn add(&mut self, outcome: &str, agreed: bool) {
         self.tally.add(outcome, agreed);
+    }
+
+    /// Counts each point of an answer by itself, and shows those that do not hold.
+    pub fn add_points(&mut self, points: Points, call: Call, answered: impl Fn() -> String) {
+        for (point, holds) in points {
+            self.add(point, holds);
+            if !holds && self.may_print() {
+                println!("at case {}: {call:X?}", self.cases);
+                println!("  program answers {}", answered());
+                println!("  does not hold: {point}");
+            }
+        }
     }
 
     /// Whether one difference more is to be shown.

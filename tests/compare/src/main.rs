@@ -6,6 +6,8 @@
 //!   compare traces MMUTRACE [SEED] [TRACES]   whole traces, by the trace program
 //!   compare reports MMUREPORT [SEED] [FILES]  reports over trace files, by the report program
 //!   compare host HOST [SEED] [CASES]          the C calls, by tests/host
+//!   compare words PROBE HOST [SEED] [CASES]   the C calls that start and set, by tests/host, with
+//!                                             the calls over words, by the program `probe`
 //!
 //! Prints how often each outcome happened. An outcome fails that never happened or in which the
 //! programs differed. The last line is 'N passed, M failed'; the status is 0 where M is 0.
@@ -33,22 +35,28 @@ mod witness;
 use std::process::ExitCode;
 
 const SEED: u64 = 100;
-const USE: &str = "use: compare calls|pools|traces|reports|host PROGRAM [SEED] [NUMBER]";
+const USE: &str = "use: compare calls|pools|traces|reports|host PROGRAM [SEED] [NUMBER]
+     compare words PROBE HOST [SEED] [NUMBER]";
 
 fn compare() -> Result<bool, String> {
     let words: Vec<String> = std::env::args().skip(1).collect();
-    let number = |n: usize, default: u64| match words.get(n) {
+    let programs = match words.first().map(String::as_str) {
+        Some("words") => 2,
+        _ => 1,
+    };
+    if !(1 + programs..=3 + programs).contains(&words.len()) {
+        return Err(USE.to_string());
+    }
+    let numbers = &words[1 + programs..];
+    let number = |n: usize, default: u64| match numbers.get(n) {
         None => Ok(default),
         Some(word) => word
             .parse()
             .map_err(|_| format!("{word} is not a decimal number")),
     };
-    if !(2..=4).contains(&words.len()) {
-        return Err(USE.to_string());
-    }
     let program = &words[1];
-    let seed = number(2, SEED)?;
-    let many = |default: usize| Ok::<usize, String>(number(3, default as u64)? as usize);
+    let seed = number(0, SEED)?;
+    let many = |default: usize| Ok::<usize, String>(number(1, default as u64)? as usize);
     println!("seed {seed}");
     match &words[0][..] {
         "calls" => calls::compare(program, seed, many(calls::CASES)?),
@@ -56,6 +64,7 @@ fn compare() -> Result<bool, String> {
         "pools" => pools::compare(program, seed, many(pools::CASES)?),
         "reports" => reports::compare(program, seed, many(reports::FILES)?),
         "traces" => traces::compare(program, seed, many(traces::TRACES)?),
+        "words" => host::words::compare(program, &words[2], seed, many(host::words::CASES)?),
         _ => Err(USE.to_string()),
     }
 }

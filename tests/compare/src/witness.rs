@@ -24,6 +24,13 @@ const ONE_HIT_ALL: &str =
 pub const MAP_EMPTIED: &str = "sequence: the map's count is the account's";
 
 pub fn all() -> Vec<String> {
+    let mut all = of_calls();
+    all.push(WORDS_AGREE.to_string());
+    all
+}
+
+/// Those of the calls themselves.
+pub fn of_calls() -> Vec<String> {
     [
         REFUSED_AS_READ,
         READ,
@@ -32,7 +39,6 @@ pub fn all() -> Vec<String> {
         SET,
         SLOTS_AGREE,
         SETTINGS_AGREE,
-        WORDS_AGREE,
         ONE_HIT,
         ONE_HIT_ALL,
     ]

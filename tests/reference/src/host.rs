@@ -1,9 +1,13 @@
-//! The raw access, the served access and the table store as a host in C calls them: over bytes,
-//! all numbers most significant byte first, the answer in one number of 64 bits.
+//! The calls as a host in C makes them: over bytes, all numbers most significant byte first, the
+//! answer in one number of 64 bits.
 //!
 //! Bits 0 to 31 of the answer are the address, or the slots emptied by a store; 32 to 47 the
 //! exception or fault value; 48 to 51 the loads; 52 there is an address; 53 it interrupts;
 //! 54 there was an exception or fault; 56 to 63 the refusal's number, all else then 0.
+
+mod control;
+
+pub use control::{guarded_setting, start};
 
 use crate::address::SLOTS;
 use crate::raw::{accepted_access, Access, RawAnswer};
@@ -116,11 +120,9 @@ fn stored(
     Ok(emptied.into())
 }
 
-/// "A wrong byte length is number 1 for the registers", and so is a field that exceeds its bits.
+/// The registers' length and then their fields: number 1 for either.
 fn fields_of(bytes: &[u8]) -> Result<Registers, Refusal> {
-    if bytes.len() != REGISTER_BYTES {
-        return Err(Refusal::RegisterField);
-    }
+    check_register_bytes(bytes)?;
     let registers = Registers::from_words(std::array::from_fn(|n| InBytes(bytes).at(n)));
     check_registers(registers)?;
     Ok(registers)
@@ -129,6 +131,14 @@ fn fields_of(bytes: &[u8]) -> Result<Registers, Refusal> {
 fn write_fields(bytes: &mut [u8], registers: Registers) {
     for (four, word) in bytes.chunks_exact_mut(4).zip(registers.to_words()) {
         four.copy_from_slice(&word.to_be_bytes());
+    }
+}
+
+/// "A wrong byte length is number 1 for the registers".
+fn check_register_bytes(registers: &[u8]) -> Result<(), Refusal> {
+    match registers.len() {
+        REGISTER_BYTES => Ok(()),
+        _ => Err(Refusal::RegisterField),
     }
 }
 

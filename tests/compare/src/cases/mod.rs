@@ -6,10 +6,10 @@ mod raw;
 mod raw_edges;
 mod read;
 pub mod scene;
-mod sequence;
+pub mod sequence;
 mod served;
 mod served_edges;
-mod setting;
+pub mod setting;
 pub mod spoil;
 mod start;
 pub mod state;
@@ -120,7 +120,7 @@ pub fn sequences(comparison: &mut Comparison, random: &mut Random, total: usize)
     }
 }
 
-/// Raw accesses, served accesses and stores made on purpose; the first ones find no table run.
+/// The C calls made on purpose; the first ones find no table run.
 pub fn c_edges(to: &mut dyn Put, random: &mut Random) {
     served_edges::without_run(to, random);
     store::without_run(to, random);
@@ -129,14 +129,31 @@ pub fn c_edges(to: &mut dyn Put, random: &mut Random) {
     served_edges::every_length(to, random);
     store::edges(to, random);
     store::every_length(to, random);
+    start_and_setting_edges(to, random);
 }
 
-/// A random raw access, served access or store.
+/// A random C call.
 pub fn any_c_call(random: &mut Random, scene: &mut Scene, kept: &[u32]) -> Request {
-    match random.below(16) {
+    match random.below(20) {
         0..=5 => raw::random(random),
         6..=10 => served::random(random, scene, kept),
-        _ => store::random(random, scene, kept),
+        11..=15 => store::random(random, scene, kept),
+        _ => any_start_or_setting(random),
+    }
+}
+
+/// Starts and guarded settings made on purpose; they take no table run.
+pub fn start_and_setting_edges(to: &mut dyn Put, random: &mut Random) {
+    start::edges(to, random);
+    setting::edges(to, random);
+}
+
+/// A random start or guarded setting.
+pub fn any_start_or_setting(random: &mut Random) -> Request {
+    match random.below(4) {
+        0 => start::random(random),
+        1 => start::over_anything(random),
+        _ => setting::random(random, 0),
     }
 }
 

@@ -66,7 +66,7 @@ fn single_bits(comparison: &mut Comparison, random: &mut Random) {
 fn near_slot(random: &mut Random, registers: Registers, buffer: &[u64]) -> Registers {
     let number = buffer[registers.select as usize];
     let location = registers.select % LOCATIONS as u32;
-    let of_slot = (number >> 29 << 10) as u32 | location << 6 | (number >> 23) as u32 % 64;
+    let of_slot = (number >> 29 << 10) as u32 | location << 6 | ((number >> 23) as u32 % 64);
     let other_bits = match random.below(6) {
         0 => return registers,
         1 => random.bits(4) << 6,

@@ -5,8 +5,8 @@ use super::tables::ask_for_tables;
 use super::witnesses::Witnesses;
 use super::world::World;
 use super::{spoil, state};
-use crate::comparison::Comparison;
 use crate::protocol::{Answer, Call, Request};
+use crate::put::PutInSequence;
 use crate::random::Random;
 use crate::witness::{LookAt, Told};
 use reference::*;
@@ -27,17 +27,17 @@ struct Sequence {
 }
 
 /// One sequence of so many calls, from a start.
-pub fn put(comparison: &mut Comparison, random: &mut Random, steps: usize) {
-    let mut sequence = Sequence::begin(comparison, random);
+pub fn put(to: &mut dyn PutInSequence, random: &mut Random, steps: usize) {
+    let mut sequence = Sequence::begin(to, random);
     for step in 1..=steps {
-        sequence.step(comparison, random, step);
+        sequence.step(to, random, step);
     }
-    sequence.ask_for_words(comparison);
+    sequence.ask_for_words(to);
 }
 
 impl Sequence {
-    fn begin(comparison: &mut Comparison, random: &mut Random) -> Sequence {
-        let started = comparison.put_before(
+    fn begin(to: &mut dyn PutInSequence, random: &mut Random) -> Sequence {
+        let started = to.put_in_sequence(
             None,
             Request::without_run(
                 Call::Start,
@@ -56,9 +56,9 @@ impl Sequence {
         }
     }
 
-    fn step(&mut self, comparison: &mut Comparison, random: &mut Random, step: usize) {
+    fn step(&mut self, to: &mut dyn PutInSequence, random: &mut Random, step: usize) {
         if step.is_multiple_of(STEPS_TO_ALL_WORDS) {
-            self.ask_for_words(comparison);
+            self.ask_for_words(to);
         }
         let reader = &self.witnesses.reader;
         let call = self
@@ -69,7 +69,7 @@ impl Sequence {
         }
         let refused = random.one_in(8);
         let mut request = match refused {
-            true => self.refused_request(comparison, random, call),
+            true => self.refused_request(to, random, call),
             false => self.request(call),
         };
         if !refused && matches!(call, Call::Setting { .. }) && random.one_in(4) {
@@ -83,11 +83,11 @@ impl Sequence {
         let was_refused = matches!(witness.told, Told::Refused(_));
         assert_eq!(was_refused, refused, "{:?}", request.call);
         let handed_buffer = !request.buffer.is_empty();
-        let answer = comparison.put_before(Some(witness), request);
+        let answer = to.put_in_sequence(Some(witness), request);
         if !was_refused {
             self.go_on(answer, handed_buffer);
         } else if !self.run_is_kept {
-            ask_for_tables(comparison);
+            ask_for_tables(to);
         }
     }
 
@@ -120,7 +120,7 @@ impl Sequence {
     /// another run, the words are asked for before the program forgets them.
     fn refused_request(
         &mut self,
-        comparison: &mut Comparison,
+        to: &mut dyn PutInSequence,
         random: &mut Random,
         call: Call,
     ) -> Request {
@@ -130,7 +130,7 @@ impl Sequence {
         }
         let other_run = !grounds.contains(&3) && random.one_in(32);
         if other_run || grounds.contains(&3) {
-            self.ask_for_words(comparison);
+            self.ask_for_words(to);
         }
         let mut request = self.request(call);
         if random.one_in(4) {
@@ -154,10 +154,10 @@ impl Sequence {
     }
 
     /// Asks for the table run, and has all touched pages looked at.
-    fn ask_for_words(&mut self, comparison: &mut Comparison) {
+    fn ask_for_words(&mut self, to: &mut dyn PutInSequence) {
         let request = self.request(Call::Tables);
         let look_at = LookAt::AllTouched(self.all_touched());
         let witness = self.witnesses.hear_of_words(look_at);
-        comparison.put_before(Some(witness), request);
+        to.put_in_sequence(Some(witness), request);
     }
 }

@@ -1,7 +1,6 @@
 //! Guarded settings on arbitrary states.
 
 use super::{spoil, state, TOO_LARGE};
-use crate::comparison::Comparison;
 use crate::protocol::{Call, Request};
 use crate::put::Put;
 use crate::random::Random;
@@ -11,31 +10,31 @@ fn request(registers: Registers, buffer: Vec<u64>, number: u32, value: u32) -> R
     Request::without_run(Call::Setting { number, value }, registers, buffer)
 }
 
-pub fn edges(comparison: &mut Comparison, random: &mut Random) {
-    refusals(comparison, random);
-    values(comparison, random);
+pub fn edges(to: &mut dyn Put, random: &mut Random) {
+    refusals(to, random);
+    values(to, random);
 }
 
 /// Every register edge with every number; the buffer's length must not matter.
-fn refusals(comparison: &mut Comparison, random: &mut Random) {
+fn refusals(to: &mut dyn Put, random: &mut Random) {
     for registers in state::register_edges(random) {
         for number in (0..10).chain(TOO_LARGE) {
             for value in [0, random.bits(6), u32::MAX] {
                 let length = random.pick(&state::LENGTHS);
                 let buffer = state::buffer(random, length);
-                comparison.put(request(registers, buffer, number, value));
+                to.put(request(registers, buffer, number, value));
             }
         }
     }
 }
 
 /// Every number with values around its width, and around 62 and 63.
-fn values(comparison: &mut Comparison, random: &mut Random) {
+fn values(to: &mut dyn Put, random: &mut Random) {
     for (number, value) in state::register_values() {
         let registers = state::registers(random);
         let length = random.pick(&[0, 64]);
         let buffer = state::buffer(random, length);
-        comparison.put(request(registers, buffer, number, value));
+        to.put(request(registers, buffer, number, value));
     }
 }
 

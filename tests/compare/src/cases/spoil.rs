@@ -110,7 +110,7 @@ fn past(random: &mut Random, run: usize) -> u32 {
 }
 
 /// A number and value that give the grounds 5, 7 or both.
-fn refused_setting(random: &mut Random, grounds: (bool, bool)) -> (u32, u32) {
+pub fn refused_setting(random: &mut Random, grounds: (bool, bool)) -> (u32, u32) {
     match grounds {
         (true, false) => (5, 63),
         (true, true) => (5, random.pick(&[64, 65, 128, 191, 0x8000_0005, u32::MAX])),

@@ -1,23 +1,22 @@
 //! Starts.
 
 use super::state;
-use crate::comparison::Comparison;
 use crate::protocol::{Call, Request};
 use crate::put::Put;
 use crate::random::Random;
-use reference::Registers;
+use reference::{Registers, SLOTS};
 
 fn request(registers: Registers, buffer: Vec<u64>) -> Request {
     Request::without_run(Call::Start, registers, buffer)
 }
 
 /// Every length with good registers and with spoilt ones, which a start never looks at.
-pub fn edges(comparison: &mut Comparison, random: &mut Random) {
+pub fn edges(to: &mut dyn Put, random: &mut Random) {
     for length in 0..=80 {
         let good = state::registers(random);
         let spoilt = state::spoil(random, good);
         for registers in [good, spoilt] {
-            comparison.put(request(registers, state::buffer(random, length)));
+            to.put(request(registers, state::buffer(random, length)));
         }
     }
 }
@@ -29,4 +28,11 @@ pub fn random(random: &mut Random) -> Request {
         _ => state::buffer(random, 64),
     };
     request(registers, buffer)
+}
+
+/// An accepted start over any registers and slots.
+pub fn over_anything(random: &mut Random) -> Request {
+    let words = std::array::from_fn(|_| random.bits(32));
+    let slots = (0..SLOTS).map(|_| random.bits64()).collect();
+    request(Registers::from_words(words), slots)
 }

@@ -23,6 +23,11 @@ pub struct Answer {
     pub runs: Runs,
 }
 
+/// What cases are put to whose bytes may hold no whole numbers.
+pub trait PutCase {
+    fn put_case(&mut self, case: Case);
+}
+
 impl Case {
     /// The request with its numbers as bytes; the tables are the run that the call finds.
     pub fn of(request: &Request, tables: &[u32]) -> Case {
@@ -30,11 +35,7 @@ impl Case {
             call: request.call,
             runs: Runs {
                 registers: bytes_of_words(&request.registers),
-                buffer: request
-                    .buffer
-                    .iter()
-                    .flat_map(|number| number.to_be_bytes())
-                    .collect(),
+                buffer: bytes_of_numbers(&request.buffer),
                 tables: bytes_of_words(tables),
             },
         }
@@ -45,6 +46,8 @@ impl Case {
             Call::Raw(access) => words_of_access(0, access),
             Call::Served(access) => words_of_access(1, access),
             Call::Store { index, value } => [2, index, value, 0, 0],
+            Call::Start => [3, 0, 0, 0, 0],
+            Call::Setting { number, value } => [4, number, value, 0, 0],
             other => panic!("{other:?} is no C call"),
         };
         let Runs {
@@ -94,6 +97,8 @@ impl Case {
             Call::Store { index, value } => {
                 host::table_store(registers, buffer, tables, index, value)
             }
+            Call::Start => host::start(registers, buffer),
+            Call::Setting { number, value } => host::guarded_setting(registers, number, value),
             other => panic!("{other:?} is no C call"),
         };
         Answer { number, runs }
@@ -119,9 +124,46 @@ pub fn bytes_of_words(words: &[u32]) -> Vec<u8> {
     words.iter().flat_map(|word| word.to_be_bytes()).collect()
 }
 
+pub fn bytes_of_numbers(numbers: &[u64]) -> Vec<u8> {
+    numbers
+        .iter()
+        .flat_map(|number| number.to_be_bytes())
+        .collect()
+}
+
+pub fn words_of_bytes(bytes: &[u8]) -> Vec<u32> {
+    let (words, _) = bytes.as_chunks();
+    words.iter().map(|&word| u32::from_be_bytes(word)).collect()
+}
+
+pub fn numbers_of_bytes(bytes: &[u8]) -> Vec<u64> {
+    let (numbers, _) = bytes.as_chunks();
+    let numbers = numbers.iter();
+    numbers.map(|&number| u64::from_be_bytes(number)).collect()
+}
+
 #[cfg(test)]
 mod tests {
     use super::*;
+
+    #[test]
+    fn a_start_and_a_setting_have_their_kinds() {
+        let words_of = |call| {
+            let none = Vec::new;
+            let runs = Runs {
+                registers: none(),
+                buffer: none(),
+                tables: none(),
+            };
+            words_of_bytes(&Case { call, runs }.to_bytes())
+        };
+        assert_eq!(words_of(Call::Start), [3, 0, 0, 0, 0, 0, 0, 0]);
+        let setting = Call::Setting {
+            number: 5,
+            value: 62,
+        };
+        assert_eq!(words_of(setting), [4, 5, 62, 0, 0, 0, 0, 0]);
+    }
 
     #[test]
     fn requests_and_answers_have_their_runs_in_order() {

@@ -1,25 +1,28 @@
 //! Puts every C call to both programs.
 
-use super::case::{Answer, Case};
+use super::case::{Answer, Case, PutCase};
 use super::{difference, layout, outcome};
 use crate::exchange::{Exchange, Question, Report};
 use crate::expected;
 use crate::fault;
 use crate::outcome::{self as numbers, Runs};
-use crate::protocol::{Call, Request};
-use crate::put::Put;
+use crate::protocol::{self, Call, Request};
+use crate::put::{Put, PutInSequence};
+use crate::witness::Witness;
 use std::rc::Rc;
 
 /// So many calls of one process have answers under way at the most.
 const CASES_FOR_A_PROCESS: usize = 4000;
 
-/// Each so many raw accesses have tables beside them.
-const RAW_WITH_TABLES: usize = 16;
+/// Each so many calls that take no tables have some beside them.
+const WITH_TABLES_BESIDE: usize = 16;
 
 struct Asked {
     case: Case,
     expected: Answer,
     outcomes: Vec<String>,
+    /// Who judges a call of a sequence, and the call on numbers.
+    witness: Option<(Witness, Request)>,
 }
 
 impl Question for Asked {
@@ -34,7 +37,7 @@ impl Question for Asked {
             report.add(outcome, agreed);
         }
         if let Some(got) = &got {
-            self.judge_fault(got, report);
+            self.judge_points(got, report);
         }
         if agreed || !report.may_print() {
             return;
@@ -47,18 +50,16 @@ impl Question for Asked {
 }
 
 impl Asked {
-    /// The fault of the program under test, by itself.
-    fn judge_fault(&self, got: &Answer, report: &mut Report) {
-        let Some(value) = layout::fault_of(self.case.call, got.number) else {
-            return;
-        };
-        let holds = fault::is_possible(value);
-        report.add(fault::POSSIBLE, holds);
-        if !holds && report.may_print() {
-            println!("at case {}: {:X?}", report.cases, self.case.call);
-            println!("  program answers {:016X}", got.number);
-            println!("  does not hold: {}", fault::POSSIBLE);
+    /// What the program under test answers, by itself and before the witness.
+    fn judge_points(&self, got: &Answer, report: &mut Report) {
+        let mut points = Vec::new();
+        if let Some(value) = layout::fault_of(self.case.call, got.number) {
+            points.push((fault::POSSIBLE, fault::is_possible(value)));
         }
+        if let Some((witness, request)) = &self.witness {
+            points.extend(witness.points(request, &layout::answer_of(got)));
+        }
+        report.add_points(points, self.case.call, || format!("{:016X}", got.number));
     }
 }
 
@@ -79,67 +80,90 @@ impl Comparison {
         self.exchange.wants_more(total)
     }
 
-    /// One call more, on bytes that may hold no whole numbers.
-    pub fn put_case(&mut self, case: Case) {
-        self.ask(case, Vec::new());
-    }
-
     /// Prints the counts; true where every outcome passed.
     pub fn finish(self) -> bool {
         self.exchange.finish()
     }
 
-    /// Asks with the outcomes that the call on numbers has; what the second program answers.
-    fn ask(&mut self, case: Case, mut outcomes: Vec<String>) -> u64 {
-        let expected = case.expected();
-        let number = expected.number;
+    /// Asks, with more outcomes than those of the bytes.
+    fn ask(
+        &mut self,
+        case: Case,
+        expected: Answer,
+        mut outcomes: Vec<String>,
+        witness: Option<(Witness, Request)>,
+    ) {
         outcomes.extend(outcome::of(&case, &expected));
         let asked = Asked {
             case,
             expected,
             outcomes,
+            witness,
         };
         self.exchange.ask(asked.case.to_bytes(), asked);
         if self.exchange.count().is_multiple_of(CASES_FOR_A_PROCESS) {
             self.exchange.restart();
         }
-        number
     }
 
-    /// The run that goes along with a call on numbers.
-    fn run_for(&self, call: Call, found: &[u32]) -> Vec<u32> {
+    /// The run beside a call that takes no tables.
+    fn run_beside(&self) -> Vec<u32> {
         let count = self.exchange.count();
-        match call {
-            Call::Raw(_) if !count.is_multiple_of(RAW_WITH_TABLES) => Vec::new(),
-            Call::Raw(_) => vec![count as u32; 8],
-            _ => found.to_vec(),
+        match count.is_multiple_of(WITH_TABLES_BESIDE) {
+            true => vec![count as u32; 8],
+            false => Vec::new(),
         }
     }
 }
 
+impl PutCase for Comparison {
+    fn put_case(&mut self, case: Case) {
+        let expected = case.expected();
+        self.ask(case, expected, Vec::new(), None);
+    }
+}
+
 impl Put for Comparison {
-    /// The same call on numbers gives the outcomes, and its answer has to be that of the bytes.
-    fn put(&mut self, mut request: Request) {
-        if let Call::Tables = request.call {
-            return;
-        }
-        if !request.tables.is_empty() {
-            self.tables = Rc::new(std::mem::take(&mut request.tables));
-        }
-        let before = Rc::clone(&self.tables);
-        let answer = expected::answer(&request, &mut self.tables);
-        let case = Case::of(&request, &self.run_for(request.call, &before));
-        let runs = Runs {
-            before: &before,
-            after: &self.tables,
-        };
-        let outcomes = numbers::of(&request, runs, &answer);
-        let number = self.ask(case, outcomes);
-        assert_eq!(number, layout::number_of(request.call, &answer));
+    fn put(&mut self, request: Request) {
+        self.put_in_sequence(None, request);
     }
 
     /// The table run as the last call on numbers left it.
     fn tables(&self) -> &[u32] {
         &self.tables
+    }
+}
+
+impl PutInSequence for Comparison {
+    /// The same call on numbers gives the outcomes, and its answer has to be that of the bytes.
+    /// Every answer has its tables, and nothing is asked of the program where they are asked for.
+    fn put_in_sequence(
+        &mut self,
+        witness: Option<Witness>,
+        mut request: Request,
+    ) -> protocol::Answer {
+        if !request.tables.is_empty() {
+            self.tables = Rc::new(std::mem::take(&mut request.tables));
+        }
+        let found = Rc::clone(&self.tables);
+        let answer = expected::answer(&request, &mut self.tables);
+        if let Call::Tables = request.call {
+            return answer;
+        }
+        let beside = self.run_beside();
+        let [before, after] = match request.call {
+            Call::Served(_) | Call::Store { .. } => [&found[..], &self.tables],
+            _ => [&beside[..]; 2],
+        };
+        let case = Case::of(&request, before);
+        let expected = case.expected();
+        assert_eq!(expected.number, layout::number_of(request.call, &answer));
+        let outcomes = match witness {
+            None => numbers::of(&request, Runs { before, after }, &answer),
+            Some(_) => Vec::new(),
+        };
+        let witness = witness.map(|witness| (witness, request));
+        self.ask(case, expected, outcomes, witness);
+        answer
     }
 }

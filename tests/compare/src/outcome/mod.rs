@@ -5,7 +5,7 @@ mod read;
 pub mod refused;
 pub mod served;
 pub mod setting;
-mod start;
+pub mod start;
 pub mod store;
 mod sweep;
 mod tables;
