@@ -14,4 +14,5 @@ pub mod Conditions
 pub mod Calls
 pub mod Reads
 pub mod Pools
+pub mod HostBytes
 pub mod Examples
