@@ -1,3 +1,4 @@
 pub mod Traces
 pub mod Service
 pub mod Lines
+pub mod Sums
