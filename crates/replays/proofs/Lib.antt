@@ -2,3 +2,5 @@ pub mod Traces
 pub mod Service
 pub mod Lines
 pub mod Sums
+pub mod Parts
+pub mod Reports

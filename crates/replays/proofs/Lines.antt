@@ -1,14 +1,13 @@
 -- The printed line of an access that the tables decide. Assumes nothing.
-use Prim.Native.Nat.{ℕ, suc, _+_, _≤_}
-use mathlib.Core.Path.{_≡_, refl, sym, ap, ap₂, _∙_, subst}
-use mathlib.Core.Bool.{Bool, true, false, cond, _&&_}
+use Prim.Native.Nat.{ℕ, suc, _≤_}
+use mathlib.Core.Path.{_≡_, refl, sym, ap, _∙_, subst}
+use mathlib.Core.Bool.{Bool, true, false, cond}
 use mathlib.Core.List.{List, [], _∷_, _++_, append-assoc, append-cancel-left}
 use native.Mathlib.Nat.{zero-add}
 use native.Mathlib.Omega.{arith}
 use lib.ListN.{length, take, getD}
 use lib.Seq.{take-append-seam}
 use lib.Dec.{eqb}
-use Rattle.runs.specs.Bits.{bit}
 use Rattle.runs.proofs.Bools.{and-false}
 use Rattle.registers.specs.Refusals.{byRefusal, drawFits}
 use Rattle.registers.specs.Replies.{refused}
@@ -16,20 +15,17 @@ use Rattle.registers.specs.declared.Access.{Access}
 use Rattle.registers.specs.declared.Outcome.{Outcome}
 use Rattle.registers.specs.declared.Outcome.the-variants.{At, Fault, Done, Refused}
 use Rattle.registers.specs.declared.Reply.{Reply}
-use Rattle.page_table.specs.declared.Walk.{Walk}
-use Rattle.page_table.specs.declared.Walk.the-variants.{Leaf, Absent, Broken}
 use Rattle.slots.specs.Buffer.{Buffer, bufferFits}
 use Rattle.store.specs.Machine.{Machine}
 use Rattle.mmu.specs.ServedAccess.{walkFor, accessReply, servedRefusal, servedReply}
 use Rattle.mmu.specs.FaultValues.{IsFault}
 use Rattle.sequence.specs.Reader.{foundLeaf}
-use Rattle.sequence.specs.Calls.{Event, accepted, callOn}
-use Rattle.sequence.specs.Calls.Call.{ServedAccess}
+use Rattle.sequence.specs.Calls.{Event, callOn}
 use Rattle.sequence.specs.Requests.Request.{ToAccess, ToStore, ToSet}
-use Rattle.sequence.specs.Systems.{System, systemAfter, Moment}
-use Rattle.sequence.specs.Systems.Moment.{Start, After}
+use Rattle.sequence.specs.Systems.{System, Moment}
+use Rattle.sequence.specs.Systems.Moment.{Start}
 use Rattle.sequence.specs.Moments.{systemAfterAll, momentAfterAll}
-use Rattle.sequence.specs.Demand3.{Holds, HoldsThroughout, Handed, HandedThroughout}
+use Rattle.sequence.specs.Demand3.{HoldsThroughout, Handed, HandedThroughout}
 use Rattle.sequence.specs.Asks.{Ask, callOf, eventOf, eventsOf, StraysRefused}
 use Rattle.sequence.specs.Asks.Ask.{Now}
 use Rattle.sequence.specs.Pages.{byTables, FromTables, RaisedIfAged}
@@ -41,13 +37,13 @@ use Rattle.line.specs.Text.{ascii, decimal, hex}
 use Rattle.line.specs.Lines.{wordOf, valueOf, headOf, lineOf}
 use Rattle.line.proofs.LineLaws.{hex-length}
 use Rattle.trace.specs.Commands.{commandsOf}
-use Rattle.trace.specs.Steps.{stepReply, machineAfterStep}
+use Rattle.trace.specs.Steps.{stepReply}
 use Rattle.trace.specs.Traces.{linesOf, startMachine, machineAfter, traceText}
 use Rattle.trace.specs.declared.Command.{Command}
 use Rattle.trace.specs.declared.Command.the-variants.{Serve, Store, Set, Malformed}
 use Rattle.trace.proofs.TraceLaws.{lines-append, machine-append}
 use Rattle.replays.specs.Traces.{asksOf, traceSystem, recordEvents}
-use Rattle.replays.specs.Lines.{faultLine, ShowsLeaf, ShowsTables, ShowsFault, ShowsAged, Prints, AtEveryAccess}
+use Rattle.replays.specs.Lines.{faultLine, ShowsTables, ShowsFault, ShowsAged, AtEveryAccess}
 use Rattle.replays.specs.Lines.{TraceNoStaleEntry, TraceAgedPageRaises}
 use Rattle.replays.proofs.Traces.{machine-is, started, records-hold}
 use Rattle.replays.proofs.Service.{Drawn, commands-drawn, drawn-behind, access-accepted}

@@ -13,11 +13,9 @@ use Rattle.registers.specs.declared.Access.{Access}
 use Rattle.registers.specs.declared.Outcome.{Outcome}
 use Rattle.registers.specs.declared.Outcome.the-variants.{At, Fault, Done, Refused}
 use Rattle.registers.specs.declared.Reply.{Reply}
-use Rattle.page_table.specs.Faults.{faultKind, PossibleFault}
+use Rattle.page_table.specs.Faults.{faultKind}
 use Rattle.page_table.specs.declared.Walk.{Walk}
 use Rattle.page_table.specs.declared.Walk.the-variants.{Leaf, Absent, Broken}
-use Rattle.slots.specs.Buffer.{Buffer}
-use Rattle.store.specs.Machine.{Machine}
 use Rattle.mmu.specs.FaultValues.{IsFault, IfFault, DecidedBy}
 use Rattle.sequence.specs.Reader.{Settings, Reader, settingsOf, readerWalk, readerAnswer}
 use Rattle.sequence.specs.Account.{Slots}
@@ -31,7 +29,7 @@ use Rattle.sequence.specs.Systems.Moment.{Start, After}
 use Rattle.sequence.specs.Sentences.{AnsweredAsReader, Counted}
 use Rattle.sequence.specs.Demand3.{Holds, HoldsThroughout}
 use Rattle.sequence.specs.Asks.{callOf, eventOf, eventsOf}
-use Rattle.sequence.specs.FaultValues.{byWalk, ReaderFault}
+use Rattle.sequence.specs.FaultValues.{byWalk}
 use Rattle.sequence.proofs.FaultValues.{reader-faults}
 use Rattle.sequence.proofs.Moments.{holds-now}
 use Rattle.trace.specs.Commands.{kindOf, drawOf, indexOf, valueOf, wellFormed, settingOf, accessOf, askedBy, commandOf, commandAt}

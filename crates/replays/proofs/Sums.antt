@@ -1,6 +1,6 @@
 -- What the records give to the totals is what their events give. Assumes nothing.
 use Prim.Native.Nat.{ℕ}
-use mathlib.Core.Path.{_≡_, refl, sym, ap, ap₂, _∙_, subst}
+use mathlib.Core.Path.{_≡_, refl, ap, ap₂, _∙_}
 use mathlib.Core.Bool.{Bool, true, false, cond}
 use mathlib.Core.List.{List, [], _∷_}
 use lib.Dec.{eqb}
@@ -11,8 +11,6 @@ use Rattle.registers.specs.declared.Outcome.the-variants.{Refused}
 use Rattle.registers.specs.declared.Reply.{Reply}
 use Rattle.store.specs.Machine.{Machine}
 use Rattle.sequence.specs.Reader.{Settings, settingsOf}
-use Rattle.sequence.specs.Effects.{Effect, readerDoes}
-use Rattle.sequence.specs.Effects.Effect.{Keep, Serve, Rewrite, Set}
 use Rattle.sequence.specs.Requests.{Request, effectOf}
 use Rattle.sequence.specs.Requests.Request.{ToAccess, ToStore, ToSet}
 use Rattle.sequence.specs.Calls.{Event, accepted, requestOf, effectBy, callOn}
@@ -21,7 +19,7 @@ use Rattle.sequence.specs.Systems.Moment.{After}
 use Rattle.sequence.specs.Demand3.{Holds, HoldsThroughout}
 use Rattle.sequence.specs.Asks.{callOf, eventOf, eventsOf}
 use Rattle.sequence.proofs.Moments.{holds-now}
-use Rattle.trace.specs.Steps.{stepReply, wordsAfterStep, machineAfterStep}
+use Rattle.trace.specs.Steps.{stepReply, machineAfterStep}
 use Rattle.trace.specs.declared.Command.{Command}
 use Rattle.trace.specs.declared.Command.the-variants.{Serve as ServeRecord, Store as StoreRecord, Set as SetRecord, Malformed}
 use Rattle.report.specs.Totals.{Gain}

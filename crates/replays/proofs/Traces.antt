@@ -4,9 +4,7 @@ use mathlib.Core.Path.{_≡_, refl, ap, _∙_}
 use mathlib.Core.Bool.{true}
 use mathlib.Core.List.{List, [], _∷_, _++_}
 use lib.ListN.{replicate}
-use Rattle.registers.specs.Fields.{zeroRegisters}
 use Rattle.registers.specs.Refusals.{refuseUnless, byRefusal}
-use Rattle.registers.specs.Replies.{refused}
 use Rattle.registers.specs.declared.Access.{Access}
 use Rattle.page_table.specs.Stretches.{lengthFits, tablesFit}
 use Rattle.slots.specs.Buffer.{Buffer, bufferFits}
