@@ -8,6 +8,7 @@ use lib.Dec.{eqb, leb}
 use lib.IntN.{ℤ, pos, _+ℤ_, +ℤ-assoc, +ℤ-comm, pos-+ℤ-pos}
 use borrow.Author.Tests.{leb-true}
 use Rattle.runs.specs.Bits.{bit}
+use Rattle.registers.specs.declared.Access.{Access}
 use Rattle.registers.specs.declared.Outcome.{Outcome}
 use Rattle.registers.specs.declared.Outcome.the-variants.{At, Fault, Done, Refused}
 use Rattle.registers.specs.declared.Reply.{Reply}
@@ -18,9 +19,9 @@ use Rattle.sequence.specs.Effects.Effect.{Keep, Serve, Rewrite, Set}
 use Rattle.sequence.specs.Calls.{Event, accepted, effectBy}
 use Rattle.sequence.specs.Systems.{System, systemAfter}
 use Rattle.report.specs.Totals.{Gain, SERVED}
-use Rattle.report.specs.Gains.{gain, hasColumn, faultColumn, faultGains, accessGains, storeGains, leafChange}
+use Rattle.report.specs.Gains.{gain, hasColumn, faultColumn, faultGains, accessGains, storeGains}
 use Rattle.report.specs.Sums.{amountIn}
-use Rattle.replays.specs.Service.{OfEach, FaultCounted}
+use Rattle.replays.specs.Service.{OfEach, KindHasColumn, FaultCounted}
 use Rattle.replays.specs.Sums.{effectGains, eventGains, addedBy, sumOver, gotAddress, addressesOver, faultColumns, together}
 
 -- ---- one event
@@ -60,7 +61,7 @@ one-of-ten loads (suc (suc (suc (suc (suc (suc (suc (suc (suc (suc zero)))))))))
 one-of-ten loads (suc (suc (suc (suc (suc (suc (suc (suc (suc (suc (suc zero))))))))))) l h = refl
 one-of-ten loads (suc (suc (suc (suc (suc (suc (suc (suc (suc (suc (suc (suc n)))))))))))) l h = absurd (omega arith)
 
-access-parts : (outcome : Outcome) (loads : ℕ) (a : _) → IfFault (λ value. hasColumn (faultKind value) ≡ true) outcome
+access-parts : (outcome : Outcome) (loads : ℕ) (a : Access) → KindHasColumn outcome
     → Parts true (gotAddress (Serve a) outcome) (accessGains outcome loads)
 unfolding accessGains faultGains gotAddress amountIn gain faultColumns together IfFault
 access-parts (At address) loads a h = refl
@@ -76,16 +77,16 @@ store-parts (Fault value) change = refl
 store-parts (Done emptied) change = refl
 store-parts (Refused number) change = refl
 
-effect-parts : (e : Effect) (before after : List ℕ) (reply : Reply) → IfFault (λ value. hasColumn (faultKind value) ≡ true) (reply .outcome)
+effect-parts : (e : Effect) (before after : List ℕ) (reply : Reply) → KindHasColumn (reply .outcome)
     → Parts true (gotAddress e (reply .outcome)) (effectGains e before after reply)
 unfolding effectGains gotAddress amountIn faultColumns together
 effect-parts Keep before after reply h = refl
-effect-parts (Serve a) before after reply h = access-parts (reply .outcome) (reply .loads) a h
-effect-parts (Rewrite groups) before after reply h = store-parts (reply .outcome) (leafChange before after)
+effect-parts (Serve a) before after reply h = access-parts (reply .outcome) _ a h
+effect-parts (Rewrite groups) before after reply h = store-parts (reply .outcome) _
 effect-parts (Set number value) before after reply h = refl
 
 event-parts : (ok here : Bool) (e : Effect) (before after : List ℕ) (reply : Reply)
-    → IfFault (λ value. hasColumn (faultKind value) ≡ true) (reply .outcome)
+    → KindHasColumn (reply .outcome)
     → Parts here (ok && (here && gotAddress e (reply .outcome))) (cond ok (effectGains e before after reply) [])
 unfolding amountIn faultColumns together
 event-parts true true e before after reply h = effect-parts e before after reply h

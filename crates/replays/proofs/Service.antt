@@ -13,7 +13,6 @@ use Rattle.registers.specs.declared.Access.{Access}
 use Rattle.registers.specs.declared.Outcome.{Outcome}
 use Rattle.registers.specs.declared.Outcome.the-variants.{At, Fault, Done, Refused}
 use Rattle.registers.specs.declared.Reply.{Reply}
-use Rattle.page_table.specs.Faults.{faultKind}
 use Rattle.page_table.specs.declared.Walk.{Walk}
 use Rattle.page_table.specs.declared.Walk.the-variants.{Leaf, Absent, Broken}
 use Rattle.mmu.specs.FaultValues.{IsFault, IfFault, DecidedBy}
@@ -36,10 +35,9 @@ use Rattle.trace.specs.Commands.{kindOf, drawOf, indexOf, valueOf, wellFormed, 
 use Rattle.trace.specs.Commands.{commandsFrom, recordCount, commandsOf}
 use Rattle.trace.specs.declared.Command.{Command}
 use Rattle.trace.specs.declared.Command.the-variants.{Serve, Store, Set, Malformed}
-use Rattle.report.specs.Gains.{hasColumn}
 use Rattle.report.proofs.FaultKinds.{counted-by-kind}
 use Rattle.replays.specs.Traces.{asksOf, traceSystem, recordEvents, traceEvents}
-use Rattle.replays.specs.Service.{AtEach, OfEach, ContextServed, FaultCounted, AccessAccepted, TracesAreServed}
+use Rattle.replays.specs.Service.{AtEach, OfEach, ContextServed, KindHasColumn, FaultCounted, AccessAccepted, TracesAreServed}
 use Rattle.replays.proofs.Traces.{next, records-hold}
 
 -- ---- contexts
@@ -58,9 +56,6 @@ contexts-served s at (e ∷ es) h = (context-served s at (h .0), contexts-served
 
 -- ---- faults
 
-abbrev HasColumn : Outcome → Type 0
-HasColumn = IfFault (λ value. hasColumn (faultKind value) ≡ true)
-
 if-fault : (P Q : ℕ → Type 0) → ((value : ℕ) → P value → Q value) → (outcome : Outcome) → IfFault P outcome → IfFault Q outcome
 unfolding IfFault
 if-fault P Q f (At address) h = tt
@@ -75,34 +70,34 @@ is-fault P Q f (Fault value) h = f value h
 is-fault P Q f (Done emptied) h = tt
 is-fault P Q f (Refused number) h = tt
 
-walk-column : (found : Walk) (outcome : Outcome) → DecidedBy 1 found outcome → HasColumn outcome
+walk-column : (found : Walk) (outcome : Outcome) → DecidedBy 1 found outcome → KindHasColumn outcome
 unfolding DecidedBy
 walk-column (Leaf f) outcome h = if-fault _ _ ((counted-by-kind 0) .possible (Leaf f)) outcome h
 walk-column (Absent s) outcome h = is-fault _ _ ((counted-by-kind 0) .possible (Absent s)) outcome h
 walk-column (Broken s) outcome h = is-fault _ _ ((counted-by-kind 0) .possible (Broken s)) outcome h
 
-reader-column : (d : Reader) (a : Access) → HasColumn (readerAnswer d a)
+reader-column : (d : Reader) (a : Access) → KindHasColumn (readerAnswer d a)
 reader-column d a = by-rule (byWalk d a) refl
   where
-    by-rule : (w : Bool) → byWalk d a ≡ w → HasColumn (readerAnswer d a)
+    by-rule : (w : Bool) → byWalk d a ≡ w → KindHasColumn (readerAnswer d a)
     by-rule true e = walk-column (readerWalk d a) (readerAnswer d a) ((reader-faults d a) .walked e)
     by-rule false e = if-fault _ _ (λ value none. absurd none) (readerAnswer d a) ((reader-faults d a) .else-none e)
 
 -- what a call owes has no other fault
 owed-column : (d : Reader) (slots : Slots) (c : Call) (outcome : Outcome) → AnswerOwed d (effectBy c) outcome
-    → CountOwed d slots (effectBy c) outcome → HasColumn outcome
+    → CountOwed d slots (effectBy c) outcome → KindHasColumn outcome
 unfolding AnswerOwed CountOwed effectBy requestOf effectOf IfFault
-owed-column d slots (ServedAccess given a) outcome p q = subst HasColumn (sym p) (reader-column d a)
-owed-column d slots (TableStore given put) outcome p q = subst HasColumn (sym q) tt
-owed-column d slots (GuardedSetting given number value) outcome p q = subst HasColumn (sym q) tt
+owed-column d slots (ServedAccess given a) outcome p q = subst KindHasColumn (sym p) (reader-column d a)
+owed-column d slots (TableStore given put) outcome p q = subst KindHasColumn (sym q) tt
+owed-column d slots (GuardedSetting given number value) outcome p q = subst KindHasColumn (sym q) tt
 
 fault-counted : (s : System) (e : Event) → Holds (systemAfter s e) (After s e) → FaultCounted s e
 unfolding IfAccepted IfRefused AnsweredAsReader Counted FaultCounted IfFault
 fault-counted s e h = by-test (accepted (e .call)) refl
   where
-    by-test : (b : Bool) → accepted (e .call) ≡ b → HasColumn (e .reply .outcome)
+    by-test : (b : Bool) → accepted (e .call) ≡ b → KindHasColumn (e .reply .outcome)
     by-test true ok = owed-column (s .reader) (s .slots) (e .call) (e .reply .outcome) (h .same-answer ok) (h .right-count ok)
-    by-test false no′ = subst (λ (r : Reply). HasColumn (r .outcome)) (sym ((h .refusal-has-no-effect no′) .reply-is)) tt
+    by-test false no′ = subst (λ (r : Reply). KindHasColumn (r .outcome)) (sym ((h .refusal-has-no-effect no′) .reply-is)) tt
 
 pub faults-counted : (s : System) (at : Moment) (es : List Event) → HoldsThroughout s at es → OfEach FaultCounted s es
 unfolding HoldsThroughout OfEach

@@ -4,6 +4,7 @@ use mathlib.Core.Path.{_≡_}
 use mathlib.Core.Bool.{true}
 use mathlib.Core.List.{List, [], _∷_}
 use Rattle.registers.specs.declared.Access.{Access}
+use Rattle.registers.specs.declared.Outcome.{Outcome}
 use Rattle.page_table.specs.Faults.{faultKind}
 use Rattle.slots.specs.Buffer.{Buffer, bufferFits}
 use Rattle.store.specs.Machine.{Machine}
@@ -29,9 +30,12 @@ pub record ContextServed (s : System) : Type 0 where
   pub in-registers : s .machine .registers .context ≤ 62
   pub in-reader : s .reader .settings .context ≤ 62
 
--- a fault is of a kind that the report counts, 1 to 8, 16 or 32; so 0, of several hits, does not occur
+-- a fault, if it is one, is of a kind that the report counts, 1 to 8, 16 or 32; so 0, of several hits, does not occur
+abbrev pub KindHasColumn : Outcome → Type 0
+KindHasColumn = IfFault (λ value. hasColumn (faultKind value) ≡ true)
+
 unfoldable pub FaultCounted : System → Event → Type 0
-FaultCounted s e = IfFault (λ value. hasColumn (faultKind value) ≡ true) (e .reply .outcome)
+FaultCounted s e = KindHasColumn (e .reply .outcome)
 
 -- an access is accepted
 unfoldable pub AccessAccepted : System → Event → Type 0
