@@ -57,7 +57,8 @@ CallsAre s (Set number value ∷ cs) [] = ⊥
 CallsAre s (Set number value ∷ cs) (e ∷ es) =
     (e .call ≡ GuardedSetting (s .machine .registers) number value) × CallsAre (systemAfter s e) cs es
 
--- a line for each record: what its event replied, and refusal 8 for a malformed one
+-- a line for each record: what its event replied, and refusal 8 for a malformed one; none where an event is missing, and `CallsAre` says
+-- that none is
 unfoldable pub textOf : (number : ℕ) → List Command → List Event → List ℕ
 textOf number [] es = []
 textOf number (Malformed ∷ cs) es = lineOf number (refused zeroRegisters 8) ++ textOf (suc number) cs es
