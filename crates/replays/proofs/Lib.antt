@@ -1,0 +1,6 @@
+pub mod Traces
+pub mod Service
+pub mod Lines
+pub mod Sums
+pub mod Parts
+pub mod Reports

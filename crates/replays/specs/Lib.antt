@@ -1,0 +1,5 @@
+pub mod Traces
+pub mod Service
+pub mod Lines
+pub mod Sums
+pub mod Reports
