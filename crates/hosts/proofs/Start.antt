@@ -1,11 +1,11 @@
 -- A C host's start is the unit's. Assumes nothing.
 use Prim.Native.Nat.{ℕ, zero, suc}
-use mathlib.Core.Path.{_≡_, refl, ap, _∙_, subst}
+use mathlib.Core.Path.{_≡_, refl, sym, ap, _∙_, subst}
 use mathlib.Core.Bool.{true}
 use mathlib.Core.List.{List}
 use native.Mathlib.Omega.{arith}
 use lib.ListN.{getD, replicate, length-replicate}
-use borrow.Author.Tests.{ne-eqb}
+use borrow.Author.Tests.{eq-eqb, ne-eqb}
 use Rattle.runs.specs.Counts.{all}
 use Rattle.wire.specs.Wire.{decoded}
 use Rattle.wire.proofs.Elements.{decoded-length}
@@ -50,17 +50,33 @@ start-within buffer =
     subst BufferWithin (start-any (replicate 64 0) (decoded 8 buffer 64) (length-replicate {A = ℕ} 64 0) (decoded-length 8 buffer 64))
     (first-within 64 (Wide (replicate 64 0)) zeros-within)
 
+-- the unit's start over such a run is accepted
+module _ (buffer : List ℕ) where
+  unit-answer : replyAnswer (startReply (bufferOf buffer)) ≡ 0
+  unfolding startReply unitRefusal refuseUnless byRefusal replyAnswer outcomeAnswer
+  unit-answer = rw (buffer-fits buffer)
+
+  unit-registers : (startReply (bufferOf buffer)) .registers ≡ zeroRegisters
+  unfolding startReply unitRefusal refuseUnless byRefusal
+  unit-registers = rw (buffer-fits buffer)
+
+  unit-buffer : startedBuffer (bufferOf buffer) ≡ startBuffer (bufferOf buffer)
+  unfolding startedBuffer unitRefusal refuseUnless byRefusal
+  unit-buffer = rw (buffer-fits buffer)
+
 pub starts-are-starts : StartsAreStarts
-unfolding startNumber startRegisters startBytes startReply startedBuffer unitRefusal refuseUnless byRefusal replyAnswer outcomeAnswer
-    refusalAnswer
-starts-are-starts registers buffer answer registers-after buffer-after accepted g = record {
-  answer-is = g .answer-is ∙ rw (accepted, buffer-fits buffer);
-  registers-are = ap registersOf (g .registers-are ∙ rw accepted) ∙ registers-trip zeroRegisters zero-fits ∙ rw (buffer-fits buffer);
-  buffer-is =
-      ap bufferOf (g .buffer-is ∙ rw accepted)
-      ∙ buffer-trip (startBuffer (bufferOf buffer)) (start-fits (bufferOf buffer) ∙ buffer-fits buffer) (start-within buffer)
-      ∙ rw (buffer-fits buffer);
-}
+unfolding startNumber startRegisters startBytes byRefusal refusalAnswer
+starts-are-starts registers buffer answer registers-after buffer-after accepted g =
+    let z = eq-eqb (startRefusal registers buffer) 0 accepted in
+    record {
+      answer-is = g .answer-is ∙ ap refusalAnswer accepted ∙ sym (unit-answer buffer);
+      registers-are =
+          ap registersOf (g .registers-are ∙ rw z) ∙ registers-trip zeroRegisters zero-fits ∙ sym (unit-registers buffer);
+      buffer-is =
+          ap bufferOf (g .buffer-is ∙ rw z)
+          ∙ buffer-trip (startBuffer (bufferOf buffer)) (start-fits (bufferOf buffer) ∙ buffer-fits buffer) (start-within buffer)
+          ∙ sym (unit-buffer buffer);
+    }
 
 pub refused-start-leaves-all : RefusedStartLeavesAll
 unfolding startNumber startRegisters startBytes byRefusal
