@@ -11,3 +11,4 @@ pub mod Bounds
 pub mod Reading
 pub mod Hosts
 pub mod Pages
+pub mod Asking

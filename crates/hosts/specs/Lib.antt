@@ -5,3 +5,4 @@ pub mod RawAccess
 pub mod Reading
 pub mod Hosts
 pub mod Pages
+pub mod Asking
