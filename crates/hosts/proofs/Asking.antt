@@ -108,11 +108,11 @@ pub every-list-runs : EveryListRuns
 unfolding HostThroughout runOf Askable callWith eventWith Typed handedBytes
 every-list-runs now h [] t = tt
 every-list-runs now h (Now (ToAccess a) ∷ qs) t = (
-  handed-one now (HostAccess now a) (h, t .0) (λ _. refl),
+  handed-one now (HostAccess now a) (h, omega (arith, t .0)) (λ _. refl),
   every-list-runs _ (kept-bytes now (eventWith now (HostAccess now a)) h (access-bytes now a h)) qs (t .1),
 )
 every-list-runs now h (Now (ToStore p) ∷ qs) t = (
-  handed-one now (HostStore now p) (h, t .0) (λ _. refl),
+  handed-one now (HostStore now p) (h, omega (arith, t .0)) (λ _. refl),
   every-list-runs _ (kept-bytes now (eventWith now (HostStore now p)) h (store-bytes now p h)) qs (t .1),
 )
 every-list-runs now h (Now (ToSet number value) ∷ qs) t = (
