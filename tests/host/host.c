@@ -12,7 +12,7 @@ enum { RAW_ACCESS, SERVED_ACCESS, TABLE_STORE, START, GUARDED_SETTING, KINDS };
 enum { REGISTERS, BUFFER, TABLES, RUNS };
 enum { HEAD_WORDS = 8, FIRST_LENGTH = 5, BLOCK = 1 << 18 };
 
-static const uint32_t most_bytes[RUNS] = {640, 640, 131072};
+static const uint32_t most_bytes[RUNS] = {64, 640, 131072};
 
 struct run {
     uint8_t *bytes;

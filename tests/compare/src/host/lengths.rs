@@ -7,7 +7,7 @@ use crate::random::Random;
 use reference::{Access, Registers, SLOTS};
 
 /// The lengths that are tried, the right one first, in bytes.
-pub const REGISTERS: [usize; 9] = [44, 0, 1, 4, 43, 45, 48, 64, 512];
+pub const REGISTERS: [usize; 8] = [44, 0, 1, 4, 43, 45, 48, 64];
 pub const BUFFERS: [usize; 11] = [512, 0, 1, 8, 44, 256, 504, 511, 513, 520, 640];
 /// The first two are right.
 pub const TABLES: [usize; 14] = [
