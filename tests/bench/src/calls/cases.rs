@@ -1,6 +1,6 @@
 //! The cases: what each finds and does.
 
-use super::unit::{read, Store, Unit, FIRST_LEAF, LEAF, PAGES};
+use super::unit::{read, Setting, Store, Unit, FIRST_LEAF, LEAF, PAGES};
 use super::work::Work;
 use reference::host::{LEAST_TABLE_BYTES, MOST_TABLE_BYTES};
 use reference::Access;
@@ -21,7 +21,7 @@ impl Case {
     /// The length of the tables as it is printed.
     pub fn tables(&self) -> String {
         match self.work {
-            Work::Raw(_) => "none".to_string(),
+            Work::Starts(_) | Work::Settings(_) | Work::Raw(_) => "none".to_string(),
             _ => self.unit.table_bytes().to_string(),
         }
     }
@@ -40,6 +40,8 @@ pub fn all() -> Vec<Case> {
     };
     let (most, least) = (MOST_TABLE_BYTES, LEAST_TABLE_BYTES);
     let with_leaves = [most, LEAST_WITH_LEAVES];
+    add("start", &[most], || Work::Starts(16));
+    add("guarded setting", &[most], || Work::Settings(contexts()));
     add("raw access, hit", &[most], || Work::Raw(held_pages()));
     add("raw access, miss", &[most], || Work::Raw(other_pages()));
     add("served access, hit", &[most, least], || {
@@ -62,6 +64,11 @@ pub fn all() -> Vec<Case> {
         || Work::Pairs(stores_of_frames()),
     );
     cases
+}
+
+/// A switch to each identification.
+fn contexts() -> Vec<Setting> {
+    (0..63).map(|value| Setting { number: 5, value }).collect()
 }
 
 fn held_pages() -> Vec<Access> {

@@ -15,6 +15,8 @@ use std::hint::black_box;
 use std::time::Duration;
 use unit::Unit;
 
+type Start = unsafe extern "C" fn(*mut u8, usize, *mut u8, usize) -> u64;
+type GuardedSetting = unsafe extern "C" fn(*mut u8, usize, u32, u32) -> u64;
 type RawAccess =
     unsafe extern "C" fn(*mut u8, usize, *const u8, usize, u32, bool, bool, u32) -> u64;
 type ServedAccess = unsafe extern "C" fn(
@@ -32,9 +34,11 @@ type ServedAccess = unsafe extern "C" fn(
 type TableStore =
     unsafe extern "C" fn(*const u8, usize, *mut u8, usize, *mut u8, usize, u32, u32) -> u64;
 
-/// The three calls as include/mmu.h declares them.
+/// The five calls as include/mmu.h declares them.
 #[derive(Clone, Copy)]
 pub struct Calls {
+    start: Start,
+    guarded_setting: GuardedSetting,
     raw_access: RawAccess,
     served_access: ServedAccess,
     table_store: TableStore,

@@ -5,6 +5,20 @@ use super::Calls;
 #[cfg(proved)]
 mod library {
     unsafe extern "C" {
+        pub fn mmu_start(
+            registers: *mut u8,
+            registers_len: usize,
+            buffer: *mut u8,
+            buffer_len: usize,
+        ) -> u64;
+
+        pub fn mmu_guarded_setting(
+            registers: *mut u8,
+            registers_len: usize,
+            number: u32,
+            value: u32,
+        ) -> u64;
+
         pub fn mmu_raw_access(
             registers: *mut u8,
             registers_len: usize,
@@ -45,6 +59,8 @@ mod library {
 #[cfg(proved)]
 pub fn calls() -> Option<Calls> {
     Some(Calls {
+        start: library::mmu_start,
+        guarded_setting: library::mmu_guarded_setting,
         raw_access: library::mmu_raw_access,
         served_access: library::mmu_served_access,
         table_store: library::mmu_table_store,

@@ -5,10 +5,33 @@ use reference::host;
 use std::slice::{from_raw_parts, from_raw_parts_mut};
 
 pub const CALLS: Calls = Calls {
+    start,
+    guarded_setting,
     raw_access,
     served_access,
     table_store,
 };
+
+unsafe extern "C" fn start(
+    registers: *mut u8,
+    registers_len: usize,
+    buffer: *mut u8,
+    buffer_len: usize,
+) -> u64 {
+    let registers = from_raw_parts_mut(registers, registers_len);
+    let buffer = from_raw_parts_mut(buffer, buffer_len);
+    host::start(registers, buffer)
+}
+
+unsafe extern "C" fn guarded_setting(
+    registers: *mut u8,
+    registers_len: usize,
+    number: u32,
+    value: u32,
+) -> u64 {
+    let registers = from_raw_parts_mut(registers, registers_len);
+    host::guarded_setting(registers, number, value)
+}
 
 unsafe extern "C" fn raw_access(
     registers: *mut u8,

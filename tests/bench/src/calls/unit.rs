@@ -18,6 +18,12 @@ pub struct Store {
     pub value: u32,
 }
 
+#[derive(Clone, Copy)]
+pub struct Setting {
+    pub number: u32,
+    pub value: u32,
+}
+
 /// Where the leaf of page 0 stands, and its value without software bits.
 pub const FIRST_LEAF: u32 = 1024;
 pub const LEAF: u32 = 0xD000_0100;
@@ -59,6 +65,32 @@ impl Unit {
 
     pub fn table_bytes(&self) -> usize {
         self.tables.len()
+    }
+
+    pub fn start(&mut self, calls: Calls) -> u64 {
+        let (registers, buffer) = (&mut self.registers, &mut self.buffer);
+        // SAFETY: each run is handed over with its own length.
+        unsafe {
+            (calls.start)(
+                registers.as_mut_ptr(),
+                registers.len(),
+                buffer.as_mut_ptr(),
+                buffer.len(),
+            )
+        }
+    }
+
+    pub fn set(&mut self, calls: Calls, setting: Setting) -> u64 {
+        let registers = &mut self.registers;
+        // SAFETY: the run is handed over with its own length.
+        unsafe {
+            (calls.guarded_setting)(
+                registers.as_mut_ptr(),
+                registers.len(),
+                setting.number,
+                setting.value,
+            )
+        }
     }
 
     pub fn access(&mut self, calls: Calls, access: Access) -> u64 {
