@@ -28,7 +28,7 @@ use Rattle.mmu_c.specs.TableStore.{storedWords as hostWords}
 use Rattle.mmu_c.proofs.Locations.{buffer-fits}
 use Rattle.hosts.specs.Bytes.{Bytes, machineIn}
 use Rattle.hosts.proofs.Trips.{BufferWithin, slot-within, words-fit}
-use Rattle.hosts.proofs.Handed.{Long, within, fits, buffer-of}
+use Rattle.hosts.proofs.Handed.{Long, within, fits, answer-of, buffer-of}
 
 -- a sweep keeps every number within 64 bits
 settled-within : (t : Bool) (slot : ℕ) (b : Buffer) → BufferWithin b → BufferWithin (settled t slot b)
@@ -55,22 +55,13 @@ words-of n tables p h l = by-test (eqb n 0) refl
     by-test false e = refl
 
 -- a reply that leaves the registers
-module _ (n x : ℕ) (r : Registers) where
-  done-answer : byRefusal n x (refusalAnswer n) ≡ replyAnswer (byRefusal n (done r x) (refused r n))
-  unfolding byRefusal replyAnswer outcomeAnswer
-  done-answer = by-test (eqb n 0)
-    where
-      by-test : (t : Bool) → cond t x (refusalAnswer n) ≡ replyAnswer (cond t (done r x) (refused r n))
-      by-test true = refl
-      by-test false = refl
-
-  done-registers : r ≡ (byRefusal n (done r x) (refused r n)) .registers
-  unfolding byRefusal
-  done-registers = by-test (eqb n 0)
-    where
-      by-test : (t : Bool) → r ≡ (cond t (done r x) (refused r n)) .registers
-      by-test true = refl
-      by-test false = refl
+done-registers : (n x : ℕ) (r : Registers) → r ≡ (byRefusal n (done r x) (refused r n)) .registers
+unfolding byRefusal
+done-registers n x r = by-test (eqb n 0)
+  where
+    by-test : (t : Bool) → r ≡ (cond t (done r x) (refused r n)) .registers
+    by-test true = refl
+    by-test false = refl
 
 module _ (h : Bytes) (p : Put) (r : Long h) where
   pub store-refusal : hostRefusal (h .registers) (h .buffer) (h .tables) (p .index) ≡ storeRefusal (machineIn h) (p .index)
@@ -91,11 +82,11 @@ module _ (h : Bytes) (p : Put) (r : Long h) where
   module _ (answer : ℕ) (buffer-after tables-after : List ℕ)
       (g : TableStoreGives (h .registers) (h .buffer) (h .tables) p answer buffer-after tables-after) where
     pub store-answer : answer ≡ replyAnswer (storeReply m p)
-    unfolding storeNumber hostWords storedWords storeReply machineIn machineOf
+    unfolding storeNumber hostWords storedWords storeReply machineIn machineOf replyAnswer outcomeAnswer
     store-answer =
         g .answer-is
         ∙ ap (λ (k : ℕ). byRefusal k (emptied after (m .buffer)) (refusalAnswer k)) store-refusal
-        ∙ done-answer (storeRefusal m (p .index)) (emptied after (m .buffer)) (m .registers)
+        ∙ answer-of (storeRefusal m (p .index)) (done (m .registers) (emptied after (m .buffer))) (m .registers)
 
     pub store-buffer : AreBytes (h .buffer) → bufferOf buffer-after ≡ bufferAfterStore m p
     unfolding storeBytes hostWords storedWords bufferAfterStore machineIn machineOf swept

@@ -1,5 +1,5 @@
 -- The ways through a guarded setting. Assumes nothing.
-use Prim.Native.Nat.{ℕ, _*_, _^_, _<_}
+use Prim.Native.Nat.{ℕ, _+_, _*_, _^_, _≤_, _<_}
 use mathlib.Core.Path.{_≡_, refl, sym, ap, _∙_}
 use mathlib.Core.Bool.{Bool, true, false, cond}
 use mathlib.Core.List.{List}
@@ -7,6 +7,7 @@ use native.Mathlib.Omega.{arith}
 use lib.ListN.{length}
 use lib.Dec.{eqb}
 use borrow.Author.Tests.{eqb-true, lt-ltb}
+use Rattle.wire.specs.Wire.{withElement}
 use Rattle.registers.specs.Fields.{put, fitsAt}
 use Rattle.registers.specs.Refusals.{byRefusal}
 use Rattle.registers.specs.Replies.{refused, done}
@@ -14,9 +15,10 @@ use Rattle.registers.proofs.RefusalLaws.{when-accepted, when-refused}
 use Rattle.registers.specs.declared.Registers.{Registers}
 use Rattle.registers.specs.declared.Reply.{Reply}
 use Rattle.control.specs.Setting.{isGuarded, switchFits, argumentRefusal, settingReply}
+use Rattle.control.proofs.CallLaws.{setting-accepted}
 use Rattle.control.specs.Setting.{settingRefusal as unitRefusal}
 use Rattle.control.specs.Setting.{GuardedSettingGives as UnitSettingGives}
-use Rattle.mmu_c.specs.Runs.{registersOf, registerBytes, registersTaken}
+use Rattle.mmu_c.specs.Runs.{registersOf, registersTaken}
 use Rattle.mmu_c.specs.Answers.{refusalAnswer, outcomeAnswer, replyAnswer, outcomeFits}
 use Rattle.mmu_c.specs.GuardedSetting.{settingRefusal, settingNumber, settingRegisters, GuardedSettingGives}
 use Rattle.mmu_c.proofs.AnswerLaws.{refusal-room}
@@ -43,10 +45,6 @@ module _ (n : ℕ) (after r : Registers) where
       by-test : (b : Bool) → let s = cond b (done after 0) (refused r n) in (outcomeFits (s .outcome) ≡ true) × (s .loads < 16)
       by-test true = (refl, omega arith)
       by-test false = (lt-ltb n 256 l, omega arith)
-
-  reply-registers : n ≡ 0 → setting-reply .registers ≡ after
-  unfolding byRefusal
-  reply-registers z = rw z refl
 
 -- ---- the ways through the call
 
@@ -90,16 +88,17 @@ module _ (registers : List ℕ) (number value : ℕ) where
         registers-are = when-refused _ _ refl _ _ _ (λ z. h (answer-is ∙ rw z refl)) refl;
       }
 
-      pub set : (registers-after : List ℕ) → answer ≡ 0 → registers-after ≡ registerBytes (reply .registers)
-          → GuardedSettingGives registers number value answer registers-after
-      unfolding settingNumber settingRegisters refusalAnswer
-      set registers-after z bq =
-          let accepted : settingRefusal registers number value ≡ 0 = omega (arith, sym answer-is ∙ z) in
-          record {
-            answer-is = answer-is;
-            registers-are =
-                when-accepted _ _ refl _ _ _ accepted
-                (bq ∙ ap registerBytes (ap (λ (s : Reply). s .registers) reply-is
-                ∙ reply-registers (settingRefusal registers number value) (put r number value) r accepted
-                ∙ ap (λ (s : Registers). put s number value) rq));
-          }
+      module _ (z : answer ≡ 0) where
+        accepted : settingRefusal registers number value ≡ 0
+        unfolding refusalAnswer
+        accepted = omega (arith, sym answer-is ∙ z)
+
+        -- the register's bytes are there
+        pub place : 4 * number + 4 ≤ length registers
+        place = omega (arith, setting-accepted r number value (same-refusal ∙ accepted))
+
+        pub set : (registers-after : List ℕ) → registers-after ≡ withElement 4 registers number value
+            → GuardedSettingGives registers number value answer registers-after
+        unfolding settingNumber settingRegisters
+        set registers-after bq =
+            record { answer-is = answer-is; registers-are = when-accepted _ _ refl _ _ _ accepted bq }

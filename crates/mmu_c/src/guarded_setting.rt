@@ -16,7 +16,6 @@ pub extern "C" fn mmu_guarded_setting(registers: &mut [u8], number: u32, value: 
     if answer != 0 {
         return answer;
     }
-    let after = reply.registers;
-    crate::put_registers(registers, after);
+    wire::put_word(registers, number as usize, value);
     answer
 }

@@ -1,4 +1,4 @@
-use Rattle.mmu_c.proofs.SettingLaws.{short, room, refused-setting, set}
+use Rattle.mmu_c.proofs.SettingLaws.{short, room, refused-setting, place, set}
 use borrow.Author.Needs.{needs}
 use Rattle.mmu_c.proofs.guarded_setting.mmu_guarded_setting.Statement.{statement}
 use Rattle.mmu_c.proofs.guarded_setting.mmu_guarded_setting.Tie as tie
@@ -27,16 +27,18 @@ returns-2 c =
     refused-setting _ _ _ _ _ (c .before .before .before .before .before .if1 .left) (c .before .before .before .registers-of .ensures) (c .before .before .guarded-setting .ensures) _
     (c .before .reply-answer .ensures) (c .if2 .taken)
 
-put-registers-requires : tie.Need-put-registers-requires
-put-registers-requires c κs = search needs
+put-word-requires : tie.Need-put-word-requires
+put-word-requires c κs = let d = c .before in
+    place _ _ _ _ _ (d .before .before .before .before .before .if1 .left) (d .before .before .before .registers-of .ensures) (d .before .before .guarded-setting .ensures) _
+    (d .before .reply-answer .ensures) (d .if2 .left)
 
 same-length-2 : tie.Need-same-length-2
 same-length-2 c = search needs
 
 returns-3 : tie.Need-returns-3
-returns-3 c = let d = c .before .before .before .before .before in
+returns-3 c = let d = c .before .before .before .before in
     set _ _ _ _ _ (d .before .before .before .before .before .if1 .left) (d .before .before .before .registers-of .ensures) (d .before .before .guarded-setting .ensures) _
-    (d .before .reply-answer .ensures) _ (d .if2 .left) (c .before .before .put-registers .ensures)
+    (d .before .reply-answer .ensures) (d .if2 .left) _ (c .before .before .put-word .ensures)
 
 pub mmu-guarded-setting-spec : {M : Type 1} → statement M
 mmu-guarded-setting-spec =
@@ -49,6 +51,6 @@ mmu-guarded-setting-spec =
     reply-answer-requires
     same-length
     returns-2
-    put-registers-requires
+    put-word-requires
     same-length-2
     returns-3)
