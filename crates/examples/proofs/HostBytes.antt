@@ -1,8 +1,8 @@
 -- Every example of a C host's bytes and answers holds, computed from the definitions. Assumes nothing.
 use mathlib.Core.Path.{_≡_, refl}
 use Rattle.runs.specs.Counts.{all, count, lowest}
-use Rattle.entry.specs.Address.{vpnOf, offsetOf, location, vpn15Of, slotOf, setOf}
-use Rattle.entry.specs.Entry.{unpack, join, lowBits, pack}
+use Rattle.entry.specs.Address.{vpnOf, offsetOf, location, vpn15Of, slotOf, setOf, vpnAt}
+use Rattle.entry.specs.Entry.{unpack, join, lowBits, pack, sameLow, sameEntry}
 use Rattle.entry.specs.Empty.{emptyFields, emptyEntry}
 use Rattle.registers.specs.Fields.{toWords, fromWords, field, put, widths, fitsAt, registersFit, zeroRegisters}
 use Rattle.registers.specs.Refusals.{refuseUnless, byRefusal, drawFits}
@@ -20,6 +20,8 @@ use Rattle.access.specs.Exceptions.{invExc, accExc, weExc, writeError, accessVi
 use Rattle.access.specs.Translation.{pageAddress, isSet, noException, withCause, exceptionAddress, interrupts, exceptionAnswer, hitValue}
 use Rattle.access.specs.Translation.{onHit, byHitCount, foundSet, pageMapped, translate}
 use Rattle.store.specs.Leaf.{leafEntry}
+use Rattle.store.specs.Sweep.{isEmpty, agreesWithLeaf, agreesWithTables, kept, keptAt, settled, sweptSlot, sweptFirst, swept, emptied}
+use Rattle.store.specs.Rewrite.{written}
 use Rattle.store.specs.TableStore.{indexFits}
 use Rattle.control.specs.Setting.{isGuarded, switchFits, argumentRefusal}
 use Rattle.mmu.specs.ServedAccess.{mayBeServed, outcomeOf, triedReply, missed, loadedAt, registersLoaded, bufferLoaded}
@@ -31,14 +33,17 @@ use Rattle.mmu_c.specs.Runs.{tablesTaken, machineOf}
 use Rattle.mmu_c.specs.Answers.{refusalAnswer, accessAnswer, rawAnswer, translationAnswer, outcomeAnswer, replyAnswer}
 use Rattle.mmu_c.specs.RawAccess.{rawRefusal, translation, rawNumber, rawRegisters}
 use Rattle.mmu_c.specs.ServedAccess.{servedRefusal, servedReply, servedBuffer, servedNumber, servedRegisters, servedBytes}
-use Rattle.mmu_c.specs.TableStore.{storeRefusal, storeNumber, storeTables}
+use Rattle.mmu_c.specs.TableStore.{storeRefusal, storedWords, storeNumber, storeBytes, storeTables}
 use Rattle.mmu_c.specs.Start.{startRefusal, startNumber, startRegisters, startBytes}
 use Rattle.mmu_c.specs.GuardedSetting.{settingRefusal, settingNumber, settingRegisters}
+use Rattle.hosts.specs.HostCalls.{hostAccepts, hostRefusal}
+use Rattle.hosts.specs.Hosts.{bytesAfter}
+use Rattle.hosts.specs.Asking.{callWith, eventWith, rawEventWith, runOf}
 use Rattle.examples.specs.Claims.{Values, allComputed, allOwed}
 use Rattle.examples.specs.Scene.{user, supervisor}
 use Rattle.examples.specs.HostBytes.{word, slot, zeros, times, elevenBytes, eleven, slotBytes, rootBytes, layout, answers}
 use Rattle.examples.specs.HostBytes.{dirtyRegisters, dirtyBuffer, emptyBytes, setBytes, settingsMade, missedBytes, leafBytes, hostCalls}
-use Rattle.examples.specs.HostBytes.{hostBytes}
+use Rattle.examples.specs.HostBytes.{longer, lengths, started, asks, answersOf, runs, hostBytes}
 
 pub host-bytes-hold : allComputed hostBytes ≡ allOwed hostBytes
 unfolding all count lowest vpnOf offsetOf location vpn15Of slotOf setOf unpack join lowBits pack emptyFields emptyEntry toWords fromWords
@@ -54,5 +59,7 @@ unfolding all count lowest vpnOf offsetOf location vpn15Of slotOf setOf unpack j
     servedRefusal servedReply servedBuffer servedNumber servedRegisters servedBytes storeRefusal storeNumber storeTables startRefusal
     startNumber startRegisters startBytes settingRefusal settingNumber settingRegisters Values allComputed allOwed user supervisor word slot
     zeros times elevenBytes eleven slotBytes rootBytes layout answers dirtyRegisters dirtyBuffer emptyBytes setBytes settingsMade missedBytes
-    leafBytes hostCalls hostBytes
+    leafBytes hostCalls longer lengths started asks answersOf runs hostBytes isEmpty agreesWithLeaf agreesWithTables kept keptAt settled sweptSlot
+    sweptFirst swept emptied written storedWords storeBytes callWith eventWith rawEventWith runOf bytesAfter hostAccepts hostRefusal sameLow
+    sameEntry vpnAt
 host-bytes-hold = refl

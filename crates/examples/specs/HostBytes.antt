@@ -1,25 +1,30 @@
--- What a C host hands over and reads, byte by byte and bit by bit: registers, a slot, table words, answers, and calls from a start on.
+-- What a C host hands over and reads, byte by byte and bit by bit: registers, a slot, table words, answers, calls from a start on, refusals
+-- of lengths, and a run.
 use Prim.Native.Nat.{ℕ, zero, suc}
 use mathlib.Core.Bool.{true, false}
 use mathlib.Core.List.{List, [], _∷_, _++_}
-use lib.ListN.{getD, take, drop, replicate}
-use Rattle.registers.specs.declared.Access.{Access}
-use Rattle.registers.specs.declared.Outcome.{Outcome}
+use lib.ListN.{take, drop, replicate}
 use Rattle.registers.specs.declared.Outcome.the-variants.{At, Fault, Done, Refused}
 use Rattle.registers.specs.declared.Registers.{Registers}
 use Rattle.slots.specs.Buffer.{slotAt}
 use Rattle.slots.specs.Buffer.Buffer.{Wide}
 use Rattle.entry.specs.Entry.{unpack}
-use Rattle.access.specs.declared.Physical.{Physical}
 use Rattle.access.specs.declared.Physical.the-variants.{Address, None}
 use Rattle.table_bytes.specs.TableBytes.{wordsOf}
-use Rattle.mmu_c.specs.Runs.{registersOf, registerBytes, bufferOf, bufferBytes}
+use Rattle.mmu_c.specs.Runs.{registersOf, registerBytes, bufferOf, bufferBytes, lengthTaken}
 use Rattle.mmu_c.specs.Answers.{rawAnswer, outcomeAnswer}
 use Rattle.mmu_c.specs.RawAccess.{rawNumber, rawRegisters}
 use Rattle.mmu_c.specs.ServedAccess.{servedNumber, servedRegisters, servedBytes}
 use Rattle.mmu_c.specs.TableStore.{storeNumber, storeTables}
 use Rattle.mmu_c.specs.Start.{startNumber, startRegisters, startBytes}
 use Rattle.mmu_c.specs.GuardedSetting.{settingNumber, settingRegisters}
+use Rattle.sequence.specs.Requests.Request.{ToAccess, ToStore, ToSet}
+use Rattle.hosts.specs.Bytes.{Bytes}
+use Rattle.hosts.specs.HostCalls.HostCall.{HostAccess, HostSetting}
+use Rattle.hosts.specs.Hosts.{HostStep}
+use Rattle.hosts.specs.Hosts.HostStep.{Called, RawRefused}
+use Rattle.hosts.specs.Asking.{HostAsk, runOf}
+use Rattle.hosts.specs.Asking.HostAsk.{Now, Stray, StrayRaw}
 use Rattle.examples.specs.Claims.{Example, _gives_}
 use Rattle.examples.specs.Scene.{user, supervisor}
 
@@ -175,9 +180,7 @@ hostCalls =
     (startNumber dirtyRegisters dirtyBuffer gives 0)
     ∷ (startRegisters dirtyRegisters dirtyBuffer gives zeros 11)
     ∷ (startBytes dirtyRegisters dirtyBuffer gives emptyBytes)
-    ∷ (startNumber (0xEE ∷ dirtyRegisters) dirtyBuffer gives 0x0100000000000000)
     ∷ (startRegisters dirtyRegisters (0xEE ∷ dirtyBuffer) gives dirtyRegisters)
-    ∷ (startNumber dirtyRegisters (0xEE ∷ dirtyBuffer) gives 0x0200000000000000)
     ∷ (settingNumber (zeros 11) 5 5 gives 0)
     ∷ (settingsMade (zeros 11) gives setBytes)
     ∷ (settingNumber setBytes 5 63 gives 0x0500000000000000)
@@ -198,5 +201,91 @@ hostCalls =
     gives word 0x00 0x00 0x00 0x00 ++ word 0x89 0xAB 0xCD 0xEF)
     ∷ []
 
+-- ---- lengths, and the order of the refusals: all later grounds are there too
+
+-- one byte more than right
+unfoldable pub longer : List ℕ → List ℕ
+longer bytes = 0xEE ∷ bytes
+
+unfoldable pub lengths : List Example
+lengths =
+    (startNumber (longer dirtyRegisters) (longer dirtyBuffer) gives 0x0100000000000000)
+    ∷ (startNumber dirtyRegisters (longer dirtyBuffer) gives 0x0200000000000000)
+    ∷ (settingNumber (longer setBytes) 5 63 gives 0x0100000000000000)
+    ∷ (rawNumber (longer setBytes) (longer emptyBytes) (user false 0x2ABC 4) gives 0x0100000000000000)
+    ∷ (rawNumber setBytes (longer emptyBytes) (user false 0x2ABC 4) gives 0x0200000000000000)
+    ∷ (rawNumber setBytes emptyBytes (user false 0x2ABC 4) gives 0x0400000000000000)
+    ∷ (servedNumber (longer setBytes) (longer emptyBytes) (longer rootBytes) (user false 0x2ABC 4) gives 0x0100000000000000)
+    ∷ (servedNumber setBytes (longer emptyBytes) (longer rootBytes) (user false 0x2ABC 4) gives 0x0200000000000000)
+    ∷ (servedNumber setBytes emptyBytes (longer rootBytes) (user false 0x2ABC 4) gives 0x0300000000000000)
+    ∷ (storeNumber (longer setBytes) (longer emptyBytes) (longer rootBytes) (record { index = 1024; value = 0 }) gives 0x0100000000000000)
+    ∷ (storeNumber setBytes (longer emptyBytes) (longer rootBytes) (record { index = 1024; value = 0 }) gives 0x0200000000000000)
+    ∷ (storeNumber setBytes emptyBytes (longer rootBytes) (record { index = 1024; value = 0 }) gives 0x0300000000000000)
+    -- the tables' least and greatest length, and the next ones on either side
+    ∷ (lengthTaken 0 gives false)
+    ∷ (lengthTaken 4095 gives false)
+    ∷ (lengthTaken 4096 gives true)
+    ∷ (lengthTaken 4100 gives false)
+    ∷ (lengthTaken 65536 gives true)
+    ∷ (lengthTaken 69632 gives false)
+    ∷ []
+
+-- ---- a run of a host
+
+unfoldable pub started : Bytes
+started = record { registers = zeros 11; buffer = emptyBytes; tables = leafBytes }
+
+-- a page is loaded, aged, removed and broken while its entry stands in the buffer; between, calls that are refused
+unfoldable pub asks : List HostAsk
+asks =
+    Now (ToSet 5 5)
+    ∷ Now (ToSet 1 7)
+    ∷ Now (ToSet 2 1)
+    ∷ Now (ToAccess (user false 0x2ABC 2))
+    ∷ Now (ToAccess (user true 0x2ABC 0))
+    ∷ Stray (HostSetting (longer (zeros 11)) 5 5)
+    ∷ StrayRaw (longer (zeros 11)) emptyBytes (user false 0x2ABC 0)
+    ∷ Stray (HostAccess started (user false 0x2ABC 4))
+    ∷ Now (ToStore (record { index = 1025; value = 0x90000123 }))
+    ∷ Now (ToAccess (user false 0x2ABC 1))
+    ∷ Now (ToSet 1 3)
+    ∷ Now (ToAccess (user false 0x2ABC 1))
+    ∷ Now (ToStore (record { index = 1025; value = 0 }))
+    ∷ Now (ToAccess (user false 0x2ABC 1))
+    ∷ Now (ToStore (record { index = 1025; value = 0xD0000456 }))
+    ∷ Now (ToAccess (user false 0x2ABC 3))
+    ∷ Now (ToStore (record { index = 512; value = 0x80000000 }))
+    ∷ Now (ToAccess (user false 0x2ABC 3))
+    ∷ []
+
+unfoldable pub answersOf : List HostStep → List ℕ
+answersOf [] = []
+answersOf (Called e ∷ es) = e .answer ∷ answersOf es
+answersOf (RawRefused r ∷ es) = r .answer ∷ answersOf es
+
+unfoldable pub runs : List Example
+runs =
+    (answersOf (runOf started asks) gives
+    0x0000000000000000
+    ∷ 0x0000000000000000
+    ∷ 0x0000000000000000
+    ∷ 0x0011000000246ABC
+    ∷ 0x0010000000246ABC
+    ∷ 0x0100000000000000
+    ∷ 0x0100000000000000
+    ∷ 0x0400000000000000
+    ∷ 0x0000000000000001
+    ∷ 0x0041000400000000
+    ∷ 0x0000000000000000
+    ∷ 0x0041000800000000
+    ∷ 0x0000000000000001
+    ∷ 0x0040031000000000
+    ∷ 0x0000000000000000
+    ∷ 0x00110000008ACABC
+    ∷ 0x0000000000000001
+    ∷ 0x0040022000000000
+    ∷ [])
+    ∷ []
+
 unfoldable pub hostBytes : List Example
-hostBytes = layout ++ answers ++ hostCalls
+hostBytes = layout ++ answers ++ hostCalls ++ lengths ++ runs

@@ -206,6 +206,11 @@ changes =
     -- inv_exc off: a final miss
     ∷ setting CTRL 3
     ∷ access (user true 0x2ABC 0)
+    -- valid again and loaded, then its directory word has number 0: broken
+    ∷ store 0x401 0xD0000456
+    ∷ access (user false 0x2ABC 0)
+    ∷ store 0x200 0x80000000
+    ∷ access (user false 0x2ABC 0)
     ∷ []
 
 unfoldable pub changeLines : List Line
@@ -231,6 +236,10 @@ changeLines =
     ∷ line (Fault 7) 1
     ∷ line (Done 0) 0
     ∷ line (Fault 8) 1
+    ∷ line (Done 1) 0
+    ∷ line (At 0x008ACABC) 1
+    ∷ line (Done 1) 0
+    ∷ line (Fault 0x220) 0
     ∷ []
 
 unfoldable pub sequences : List Example

@@ -20,8 +20,8 @@ use Rattle.hosts.specs.Bytes.{Bytes}
 use Rattle.hosts.specs.HostCalls.{HostCall, hostAccepts, Typed, handedBytes, HostPromise}
 use Rattle.hosts.specs.HostCalls.HostCall.{HostAccess, HostStore, HostSetting}
 use Rattle.hosts.specs.Hosts.{HostEvent, bytesAfter, HostHanded, HostThroughout}
-use Rattle.hosts.specs.Asking.{callWith, eventWith, runOf, Askable, EveryListRuns}
-use Rattle.hosts.specs.Asking.HostAsk.{Now, Stray}
+use Rattle.hosts.specs.Asking.{callWith, eventWith, rawEventWith, runOf, Askable, EveryListRuns}
+use Rattle.hosts.specs.Asking.HostAsk.{Now, Stray, StrayRaw}
 
 -- ---- what is encoded is bytes
 
@@ -105,7 +105,7 @@ store-bytes now p h = either-bytes _ _ _ (buffer-bytes _) h
 -- ---- the list
 
 pub every-list-runs : EveryListRuns
-unfolding HostThroughout runOf Askable callWith eventWith Typed handedBytes
+unfolding HostThroughout runOf Askable callWith eventWith rawEventWith Typed handedBytes
 every-list-runs now h [] t = tt
 every-list-runs now h (Now (ToAccess a) ∷ qs) t = (
   handed-one now (HostAccess now a) (h, omega (arith, t .0)) (λ _. refl),
@@ -122,4 +122,8 @@ every-list-runs now h (Now (ToSet number value) ∷ qs) t = (
 every-list-runs now h (Stray c ∷ qs) t = (
   handed-one now c (t .0) (λ ok. absurd (clash ok (t .1))),
   every-list-runs _ (refused-bytes now c h (t .1)) qs (t .2),
+)
+every-list-runs now h (StrayRaw registers buffer a ∷ qs) t = (
+  record { is-refused = t .0; promised = record { answer-is = refl; registers-are = refl } },
+  every-list-runs now h qs (t .1),
 )

@@ -1,8 +1,9 @@
 -- A C host's calls are the unit's calls on the machine that its bytes hold. Assumes nothing.
-use Prim.Native.Nat.{ℕ}
+use Prim.Native.Nat.{ℕ, _≤_}
 use mathlib.Core.Path.{_≡_, refl, ap, _∙_}
 use mathlib.Core.Bool.{Bool, true, false, _&&_}
-use lib.Dec.{eqb}
+use native.Mathlib.Omega.{arith}
+use borrow.Author.Tests.{ne-eqb}
 use Rattle.runs.proofs.Bools.{clash}
 use Rattle.registers.specs.Fields.{registersFit}
 use Rattle.registers.specs.Refusals.{refuseUnless, byRefusal}
@@ -15,7 +16,7 @@ use Rattle.mmu_c.specs.GuardedSetting.{settingRefusal, settingNumber, settingRe
 use Rattle.sequence.specs.Calls.{refusal, leftBy}
 use Rattle.sequence.specs.Asks.{eventOf}
 use Rattle.hosts.specs.Bytes.{Bytes, machineIn}
-use Rattle.hosts.specs.HostCalls.{hostRefusal, hostAccepts, longRight, rightLengths, Typed, handedBytes, HostPromise}
+use Rattle.hosts.specs.HostCalls.{HostCall, hostRefusal, hostAccepts, longRight, rightLengths, Typed, handedBytes, HostPromise}
 use Rattle.hosts.specs.HostCalls.{callIn, eventIn, HostCallsAreCalls, RefusedLeaveAll, WrongLengthsRefused}
 use Rattle.hosts.specs.HostCalls.HostCall.{HostAccess, HostStore, HostSetting}
 use Rattle.hosts.proofs.Handed.{long}
@@ -80,25 +81,30 @@ refused-leave-all now (HostSetting given number value) answer after no′ g = re
 
 -- a wrong length is refused, by one of the first three tests
 first-three : (l f b t : Bool) (later : ℕ) → l && b && t ≡ false
-    → eqb (refuseUnless (l && f) 1 (refuseUnless b 2 (refuseUnless t 3 later))) 0 ≡ false
+    → let n = refuseUnless (l && f) 1 (refuseUnless b 2 (refuseUnless t 3 later)) in (1 ≤ n) × (n ≤ 3)
 unfolding refuseUnless
 first-three true true true true later e = absurd (clash refl e)
-first-three true true true false later e = refl
-first-three true true false t later e = refl
-first-three true false b t later e = refl
-first-three false f b t later e = refl
+first-three true true true false later e = (omega arith, omega arith)
+first-three true true false t later e = (omega arith, omega arith)
+first-three true false b t later e = (omega arith, omega arith)
+first-three false f b t later e = (omega arith, omega arith)
 
 module _ (h : Bytes) (later : ℕ) where
   length-refused : longRight h ≡ false
-      → eqb (refuseUnless (registersTaken (h .registers)) 1 (refuseUnless (bufferTaken (h .buffer)) 2
-      (refuseUnless (tablesTaken (h .tables)) 3 later))) 0 ≡ false
+      → let n = refuseUnless (registersTaken (h .registers)) 1 (refuseUnless (bufferTaken (h .buffer)) 2
+      (refuseUnless (tablesTaken (h .tables)) 3 later)) in (1 ≤ n) × (n ≤ 3)
   unfolding longRight registersTaken
   length-refused =
       first-three (registersLong (h .registers)) (registersFit (registersOf (h .registers))) (bufferTaken (h .buffer))
       (tablesTaken (h .tables)) later
 
 pub wrong-lengths-refused : WrongLengthsRefused
-unfolding rightLengths hostAccepts hostRefusal servedRefusal storeRefusal settingRefusal registersTaken refuseUnless
+unfolding rightLengths hostRefusal servedRefusal storeRefusal settingRefusal registersTaken refuseUnless
 wrong-lengths-refused (HostAccess given a) e = length-refused given _ e
 wrong-lengths-refused (HostStore given p) e = length-refused given _ e
-wrong-lengths-refused (HostSetting given number value) e = rw e
+wrong-lengths-refused (HostSetting given number value) e = rw e (omega arith, omega arith)
+
+-- so it is not accepted
+pub length-not-accepted : (c : HostCall) → rightLengths c ≡ false → hostAccepts c ≡ false
+unfolding hostAccepts
+length-not-accepted c e = ne-eqb (hostRefusal c) 0 (λ z. omega (arith, (wrong-lengths-refused c e) .0))

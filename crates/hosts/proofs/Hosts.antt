@@ -21,11 +21,13 @@ use Rattle.sequence.proofs.Asking.{event-call, handed-one}
 use Rattle.hosts.specs.Bytes.{Bytes, machineIn}
 use Rattle.hosts.specs.HostCalls.{HostCall, hostAccepts, rightLengths, handedBytes, callIn, eventIn, IsUnitCall}
 use Rattle.hosts.specs.HostCalls.HostCall.{HostAccess, HostStore, HostSetting}
-use Rattle.hosts.specs.Hosts.{HostEvent, bytesAfter, bytesAfterAll, HostHanded, HostThroughout, unitEvent, systemAfterCall, eventsOf}
+use Rattle.hosts.specs.Hosts.{HostEvent, HostStep, bytesAfter, bytesAfterAll, HostHanded, HostThroughout, unitEvent, systemAfterCall, hostEvents}
 use Rattle.hosts.specs.Hosts.{HostAnswered, AnsweredThroughout, hostSystem, Started, HostsAreSequences}
 use Rattle.hosts.proofs.Trips.{words-fit}
-use Rattle.hosts.proofs.HostCalls.{host-calls-are-calls, refused-leave-all, wrong-lengths-refused}
+use Rattle.hosts.proofs.HostCalls.{host-calls-are-calls, refused-leave-all, length-not-accepted}
+use Rattle.hosts.specs.Hosts.HostStep.{Called, RawRefused}
 use Rattle.hosts.proofs.Start.{starts-are-starts}
+use Rattle.hosts.proofs.RawAccess.{refused-raw-access-leaves-all}
 
 -- what the unit's call is handed is the machine in the bytes that the host's call is handed
 handed-in : (now : Bytes) (c : HostCall) → handed (machineIn now) (callIn c) ≡ machineIn (handedBytes now c)
@@ -76,12 +78,12 @@ module _ (now : Bytes) (s : System) (e : HostEvent) (q : machineIn now ≡ s .ma
       by-length : (t : Bool) → rightLengths c ≡ t
           → machineIn (cond (hostAccepts c) (e .after) now) ≡ (cond t (systemAfter s (unitEvent s e)) s) .machine
       by-length true w = left (hostAccepts c) refl w
-      by-length false w = rw (wrong-lengths-refused c w) q
+      by-length false w = rw (length-not-accepted c w) q
 
   answered : HostAnswered now s e
   answered = record {
     as-event = λ w. is-call w .answer-is ∙ ap (λ (u : Event). replyAnswer (u .reply)) (same-event w);
-    no-event = λ w. refused-leave-all now c (e .answer) (e .after) (wrong-lengths-refused c w) (h .promised);
+    no-event = λ w. refused-leave-all now c (e .answer) (e .after) (length-not-accepted c w) (h .promised);
     machine-is = next;
   }
 
@@ -92,16 +94,16 @@ system-after s e t w = ap (λ (b : Bool). cond b (systemAfter s (unitEvent s e))
 
 -- ---- the induction
 
-pub record Ran (now : Bytes) (s : System) (es : List HostEvent) : Type 0 where
-  pub is-sequence : HandedThroughout s (eventsOf s es)
+pub record Ran (now : Bytes) (s : System) (es : List HostStep) : Type 0 where
+  pub is-sequence : HandedThroughout s (hostEvents s es)
   pub answers-are : AnsweredThroughout now s es
-  pub machine-is : machineIn (bytesAfterAll now es) ≡ (systemAfterAll s (eventsOf s es)) .machine
+  pub machine-is : machineIn (bytesAfterAll now es) ≡ (systemAfterAll s (hostEvents s es)) .machine
 
 -- one call more before a run
-module _ (now : Bytes) (s : System) (e : HostEvent) (es : List HostEvent) (q : machineIn now ≡ s .machine) (h : HostHanded now e)
+module _ (now : Bytes) (s : System) (e : HostEvent) (es : List HostStep) (q : machineIn now ≡ s .machine) (h : HostHanded now e)
     (rest : Ran (bytesAfter now e) (systemAfterCall s e) es) where
   abbrev later : List Event
-  later = eventsOf (systemAfterCall s e) es
+  later = hostEvents (systemAfterCall s e) es
 
   sequence : (t : Bool) → rightLengths (e .call) ≡ t → HandedThroughout s (cond t (unitEvent s e ∷ later) later)
   unfolding HandedThroughout
@@ -117,18 +119,29 @@ module _ (now : Bytes) (s : System) (e : HostEvent) (es : List HostEvent) (q : m
   last true w = ap (λ (x : System). (systemAfterAll x later) .machine) (system-after s e true w)
   last false w = ap (λ (x : System). (systemAfterAll x later) .machine) (system-after s e false w)
 
-  one-more : Ran now s (e ∷ es)
-  unfolding AnsweredThroughout eventsOf bytesAfterAll
+  one-more : Ran now s (Called e ∷ es)
+  unfolding AnsweredThroughout hostEvents bytesAfterAll
   one-more = record {
     is-sequence = sequence (rightLengths (e .call)) refl;
     answers-are = (answered now s e q h, rest .answers-are);
     machine-is = rest .machine-is ∙ last (rightLengths (e .call)) refl;
   }
 
-ran : (now : Bytes) (s : System) (es : List HostEvent) → machineIn now ≡ s .machine → HostThroughout now es → Ran now s es
-unfolding HostThroughout HandedThroughout AnsweredThroughout eventsOf bytesAfterAll systemAfterAll
+ran : (now : Bytes) (s : System) (es : List HostStep) → machineIn now ≡ s .machine → HostThroughout now es → Ran now s es
+unfolding HostThroughout HandedThroughout AnsweredThroughout hostEvents bytesAfterAll systemAfterAll
 ran now s [] q h = record { is-sequence = tt; answers-are = tt; machine-is = q }
-ran now s (e ∷ es) q h =
+ran now s (RawRefused r ∷ es) q h =
+    let rest = ran now s es q (h .1) in
+    let k = h .0 in
+    record {
+      is-sequence = rest .is-sequence;
+      answers-are = (
+        refused-raw-access-leaves-all (r .registers) (r .buffer) (r .access) (r .answer) (r .after) (k .is-refused) (k .promised),
+        rest .answers-are,
+      );
+      machine-is = rest .machine-is;
+    }
+ran now s (Called e ∷ es) q h =
     one-more now s e es q (h .0) (ran (bytesAfter now e) (systemAfterCall s e) es (next now s e q (h .0)) (h .1))
 
 -- ---- from the start
@@ -149,7 +162,7 @@ hosts-are-sequences buffer started s es h =
       demand3-holds =
           demand3 (bufferOf buffer) (startedBuffer (bufferOf buffer)) (startReply (bufferOf buffer)) (wordsOf (started .tables))
           (buffer-fits buffer) (start-gives (bufferOf buffer) _ _ refl refl) (words-fit (started .tables) (s .tables-long))
-          (eventsOf (hostSystem buffer (started .tables)) es) (r .is-sequence);
+          (hostEvents (hostSystem buffer (started .tables)) es) (r .is-sequence);
       starts = q;
       answers-are = r .answers-are;
       machine-is = r .machine-is;

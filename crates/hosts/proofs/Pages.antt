@@ -35,45 +35,49 @@ use Rattle.hosts.specs.Bytes.{Bytes, machineIn}
 use Rattle.hosts.specs.HostCalls.{HostCall, hostRefusal, hostAccepts, rightLengths, Typed, HostPromise, callIn, eventIn}
 use Rattle.hosts.specs.HostCalls.HostCall.{HostAccess}
 use Rattle.hosts.specs.Reading.{OutcomeRead}
-use Rattle.hosts.specs.Hosts.{HostEvent, bytesAfter, bytesAfterAll, HostHanded, HostThroughout, unitEvent, systemAfterCall, eventsOf}
+use Rattle.hosts.specs.Hosts.{HostEvent, HostStep, bytesAfter, bytesAfterAll, HostHanded, HostThroughout, unitEvent, systemAfterCall, hostEvents}
+use Rattle.hosts.specs.Hosts.HostStep.{Called, RawRefused}
 use Rattle.hosts.specs.Hosts.{hostSystem}
 use Rattle.hosts.specs.Pages.{StopRead, ReadFromTables, FaultBetween, ReadIfAged, AfterAnyCalls, HostNoStaleEntry}
 use Rattle.hosts.specs.Pages.{HostAgedPageRaises}
 use Rattle.hosts.proofs.Trips.{words-fit}
 use Rattle.hosts.proofs.Bounds.{AddressWithin, access-address, FoundNone, none-loaded}
-use Rattle.hosts.proofs.HostCalls.{host-calls-are-calls, wrong-lengths-refused}
+use Rattle.hosts.proofs.HostCalls.{host-calls-are-calls, length-not-accepted}
 use Rattle.hosts.proofs.Reading.{answers-read, refusals-read}
 use Rattle.hosts.proofs.Hosts.{hosts-are-sequences}
 
 -- ---- the last of some calls, as an event behind others
 
 -- the system after some calls
-unfoldable systemAfterCalls : System → List HostEvent → System
+unfoldable systemAfterCalls : System → List HostStep → System
 systemAfterCalls s [] = s
-systemAfterCalls s (e ∷ es) = systemAfterCalls (systemAfterCall s e) es
+systemAfterCalls s (Called e ∷ es) = systemAfterCalls (systemAfterCall s e) es
+systemAfterCalls s (RawRefused r ∷ es) = systemAfterCalls s es
 
-events-behind : (s : System) (es : List HostEvent) (e : HostEvent) → rightLengths (e .call) ≡ true
-    → eventsOf s (es ++ (e ∷ [])) ≡ eventsOf s es ++ (unitEvent (systemAfterCalls s es) e ∷ [])
-unfolding eventsOf systemAfterCalls
+events-behind : (s : System) (es : List HostStep) (e : HostEvent) → rightLengths (e .call) ≡ true
+    → hostEvents s (es ++ (Called e ∷ [])) ≡ hostEvents s es ++ (unitEvent (systemAfterCalls s es) e ∷ [])
+unfolding hostEvents systemAfterCalls
 events-behind s [] e w = rw w
-events-behind s (x ∷ es) e w = by-length (rightLengths (x .call)) (events-behind (systemAfterCall s x) es e w)
+events-behind s (RawRefused r ∷ es) e w = events-behind s es e w
+events-behind s (Called x ∷ es) e w = by-length (rightLengths (x .call)) (events-behind (systemAfterCall s x) es e w)
   where
     next : System
     next = systemAfterCall s x
 
     by-length : (t : Bool)
-        → eventsOf next (es ++ (e ∷ [])) ≡ eventsOf next es ++ (unitEvent (systemAfterCalls next es) e ∷ [])
-        → cond t (unitEvent s x ∷ eventsOf next (es ++ (e ∷ []))) (eventsOf next (es ++ (e ∷ [])))
-        ≡ cond t (unitEvent s x ∷ eventsOf next es) (eventsOf next es) ++ (unitEvent (systemAfterCalls next es) e ∷ [])
+        → hostEvents next (es ++ (Called e ∷ [])) ≡ hostEvents next es ++ (unitEvent (systemAfterCalls next es) e ∷ [])
+        → cond t (unitEvent s x ∷ hostEvents next (es ++ (Called e ∷ []))) (hostEvents next (es ++ (Called e ∷ [])))
+        ≡ cond t (unitEvent s x ∷ hostEvents next es) (hostEvents next es) ++ (unitEvent (systemAfterCalls next es) e ∷ [])
     by-length true q = ap (λ (us : List Event). unitEvent s x ∷ us) q
     by-length false q = q
 
 -- what the last call was handed
-last-handed : (now : Bytes) (es : List HostEvent) (e : HostEvent) → HostThroughout now (es ++ (e ∷ []))
+last-handed : (now : Bytes) (es : List HostStep) (e : HostEvent) → HostThroughout now (es ++ (Called e ∷ []))
     → HostHanded (bytesAfterAll now es) e
 unfolding HostThroughout bytesAfterAll
 last-handed now [] e h = h .0
-last-handed now (x ∷ es) e h = last-handed (bytesAfter now x) es e (h .1)
+last-handed now (Called x ∷ es) e h = last-handed (bytesAfter now x) es e (h .1)
+last-handed now (RawRefused r ∷ es) e h = last-handed now es e (h .1)
 
 -- ---- an accepted access of a host
 
@@ -94,7 +98,7 @@ module _ (now given : Bytes) (a : Access) (answer : ℕ) (after : Bytes) (t : Ty
       by-length : (w : Bool) → rightLengths (HostAccess given a) ≡ w → w ≡ true
       by-length true e = refl
       by-length false e =
-          absurd (clash (eq-eqb (hostRefusal (HostAccess given a)) 0 not-refused) (wrong-lengths-refused (HostAccess given a) e))
+          absurd (clash (eq-eqb (hostRefusal (HostAccess given a)) 0 not-refused) (length-not-accepted (HostAccess given a) e))
 
   accessed : Accessed (machineIn given) a answer
   unfolding Typed callIn eventIn eventOf refusal
@@ -199,7 +203,7 @@ after-any : (Says : (m : Machine) (a : Access) (outcome : Outcome) → Type 0) (
 unfolding AfterAnySequence AfterAnyCalls hostSystem eventOf
 after-any Says Reads always reads buffer started st earlier last h given a is z by =
     let s = hostSystem buffer (started .tables) in
-    let run = hosts-are-sequences buffer started st (earlier ++ (last ∷ [])) h in
+    let run = hosts-are-sequences buffer started st (earlier ++ (Called last ∷ [])) h in
     let now = bytesAfterAll started earlier in
     let hh = last-handed started earlier last h in
     let t = subst Typed is (hh .typed) in
@@ -212,7 +216,7 @@ after-any Says Reads always reads buffer started st earlier last h given a is z 
     (subst (λ (x : Event). Says (machineIn given) a (x .reply .outcome)) (event-is (systemAfterCalls s earlier) last given a is)
     (always (bufferOf buffer) (startedBuffer (bufferOf buffer)) (startReply (bufferOf buffer)) (wordsOf (started .tables))
     (buffer-fits buffer) (start-gives (bufferOf buffer) _ _ refl refl) (words-fit (started .tables) (st .tables-long))
-    (eventsOf s earlier) u k (machineIn given) a (call-is (systemAfterCalls s earlier) last given a is)
+    (hostEvents s earlier) u k (machineIn given) a (call-is (systemAfterCalls s earlier) last given a is)
     (call-accepted (systemAfterCalls s earlier) last given a is (d .is-accepted)) by))
 
 pub host-no-stale-entry : HostNoStaleEntry

@@ -47,7 +47,7 @@ use Rattle.hosts.specs.HostCalls.HostCall.{HostAccess, HostStore, HostSe
 use Rattle.hosts.specs.Reading.{OutcomeRead, AnswersRead, RefusalsRead, StartsRead, LocatedRead, RawRead, RawAccessesRead}
 use Rattle.hosts.proofs.AnswerBits.{access-read, refusal-read, emptied-read}
 use Rattle.hosts.proofs.Bounds.{Within32, translate-within, AddressWithin, access-address}
-use Rattle.hosts.proofs.HostCalls.{host-calls-are-calls, refused-leave-all, wrong-lengths-refused}
+use Rattle.hosts.proofs.HostCalls.{host-calls-are-calls, refused-leave-all, length-not-accepted}
 
 -- ---- a reply that is no refusal, and what is read off its answer
 
@@ -176,7 +176,7 @@ refusals-read now c answer after t g = by-test (hostAccepts c) refl (rightLength
   where
     by-test : (b : Bool) → hostAccepts c ≡ b → (w : Bool) → rightLengths c ≡ w → bits 63 56 answer ≡ hostRefusal c
     by-test false no′ w e = refused-bits now c answer after no′ g (host-lt c)
-    by-test true ok false e = absurd (clash ok (wrong-lengths-refused c e))
+    by-test true ok false e = absurd (clash ok (length-not-accepted c e))
     by-test true ok true e =
         let u = host-calls-are-calls now c answer after t e g in
         let z = eqb-true (hostRefusal c) 0 ok in

@@ -1,5 +1,5 @@
 -- The calls of a C host with all that they are handed, and the unit's call that each of them is.
-use Prim.Native.Nat.{ℕ, _^_, _<_}
+use Prim.Native.Nat.{ℕ, _^_, _≤_, _<_}
 use mathlib.Core.Path.{_≡_}
 use mathlib.Core.Bool.{Bool, true, false, _&&_}
 use mathlib.Core.List.{List}
@@ -41,7 +41,7 @@ rightLengths (HostAccess given a) = longRight given
 rightLengths (HostStore given p) = longRight given
 rightLengths (HostSetting given number value) = registersLong given
 
--- what its C types say of a call: a run's numbers are bytes, and a word has 32 bits
+-- what its C types say of a call: the buffer's numbers are bytes, and a word has 32 bits
 unfoldable pub Typed : HostCall → Type 0
 Typed (HostAccess given a) = AreBytes (given .buffer) × (a .address < 2 ^ 32)
 Typed (HostStore given p) = AreBytes (given .buffer) × (p .value < 2 ^ 32)
@@ -94,6 +94,6 @@ abbrev pub RefusedLeaveAll : Type 0
 RefusedLeaveAll = (now : Bytes) (c : HostCall) (answer : ℕ) (after : Bytes) → hostAccepts c ≡ false
     → HostPromise now c answer after → LeftAlone now c answer after
 
--- a wrong length is refused
+-- a wrong length is refused, with 1, 2 or 3
 abbrev pub WrongLengthsRefused : Type 0
-WrongLengthsRefused = (c : HostCall) → rightLengths c ≡ false → hostAccepts c ≡ false
+WrongLengthsRefused = (c : HostCall) → rightLengths c ≡ false → (1 ≤ hostRefusal c) × (hostRefusal c ≤ 3)

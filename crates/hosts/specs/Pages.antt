@@ -17,7 +17,8 @@ use Rattle.mmu_c.specs.FaultAnswers.{FaultRead}
 use Rattle.sequence.specs.Pages.{byTables, AddressOfLeaf}
 use Rattle.hosts.specs.Bytes.{Bytes, machineIn}
 use Rattle.hosts.specs.HostCalls.HostCall.{HostAccess}
-use Rattle.hosts.specs.Hosts.{HostEvent, HostThroughout, Started}
+use Rattle.hosts.specs.Hosts.{HostEvent, HostStep, HostThroughout, Started}
+use Rattle.hosts.specs.Hosts.HostStep.{Called}
 
 -- a fault of a walk that found no leaf: its value, its kind, and where it stopped; nothing was loaded
 pub record StopRead (answer value kind : ℕ) (s : Stop) : Type 0 where
@@ -52,7 +53,7 @@ ReadIfAged m a answer = (f : Found) → walkFor m a ≡ Leaf f → leafValid (f 
 unfoldable pub AfterAnyCalls : (Says : (m : Machine) (a : Access) (answer : ℕ) → Type 0) → Type 0
 AfterAnyCalls Says =
     (buffer : List ℕ) (started : Bytes) → Started buffer started
-    → (earlier : List HostEvent) (last : HostEvent) → HostThroughout started (earlier ++ (last ∷ []))
+    → (earlier : List HostStep) (last : HostEvent) → HostThroughout started (earlier ++ (Called last ∷ []))
     → (given : Bytes) (a : Access) → last .call ≡ HostAccess given a → bits 63 56 (last .answer) ≡ 0
     → byTables (machineIn given) a ≡ true → Says (machineIn given) a (last .answer)
 

@@ -1,7 +1,7 @@
 -- A C host's raw access is the unit's. It is in no sequence of demand 3.
-use Prim.Native.Nat.{ℕ}
+use Prim.Native.Nat.{ℕ, _≤_}
 use mathlib.Core.Path.{_≡_}
-use mathlib.Core.Bool.{true, _&&_}
+use mathlib.Core.Bool.{true, false, _&&_}
 use mathlib.Core.List.{List}
 use Rattle.registers.specs.declared.Access.{Access}
 use Rattle.registers.specs.declared.Registers.{Registers}
@@ -30,6 +30,11 @@ abbrev pub RawAccessesAreRawAccesses : Type 0
 RawAccessesAreRawAccesses = (registers buffer : List ℕ) (a : Access) (answer : ℕ) (registers-after : List ℕ)
     → registersLong registers && bufferTaken buffer ≡ true → RawAccessGives registers buffer a answer registers-after
     → IsUnitRawAccess registers buffer a answer registers-after
+
+-- a wrong length is refused, with 1 or 2
+abbrev pub WrongRawLengthsRefused : Type 0
+WrongRawLengthsRefused = (registers buffer : List ℕ) (a : Access) → registersLong registers && bufferTaken buffer ≡ false
+    → (1 ≤ rawRefusal registers buffer a) × (rawRefusal registers buffer a ≤ 2)
 
 -- a refused one, for a length or not, answers its number and leaves every byte
 pub record RawLeftAlone (registers buffer : List ℕ) (a : Access) (answer : ℕ) (registers-after : List ℕ) : Type 0 where

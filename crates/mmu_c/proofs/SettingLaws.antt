@@ -48,20 +48,23 @@ module _ (n : ℕ) (after r : Registers) where
 
 -- ---- the ways through the call
 
+argument-lt : (number value : ℕ) → argumentRefusal number value < 256
+unfolding argumentRefusal
+argument-lt number value = refusal-room (switchFits number value) 5 _ (omega arith)
+    (refusal-room (isGuarded number) 7 _ (omega arith)
+    (refusal-room (fitsAt number value) 7 0 (omega arith) (omega arith)))
+
 module _ (registers : List ℕ) (number value : ℕ) where
   pub refusal-lt : settingRefusal registers number value < 256
-  unfolding settingRefusal argumentRefusal
-  refusal-lt = refusal-room (registersTaken registers) 1 _ (omega arith)
-      (refusal-room (switchFits number value) 5 _ (omega arith)
-      (refusal-room (isGuarded number) 7 _ (omega arith)
-      (refusal-room (fitsAt number value) 7 0 (omega arith) (omega arith))))
+  unfolding settingRefusal
+  refusal-lt = refusal-room (registersTaken registers) 1 _ (omega arith) (argument-lt _ _)
 
   -- the registers are not 44 bytes
   pub short : (answer : ℕ) → (length registers ≡ 44 → ⊥) → answer ≡ refusalAnswer 1
       → GuardedSettingGives registers number value answer registers
   unfolding settingNumber settingRegisters settingRefusal
   short answer h q =
-      let nq = short-refusal registers (argumentRefusal number value) h in
+      let nq = short-refusal registers _ h in
       record { answer-is = q ∙ ap refusalAnswer nq; registers-are = when-refused _ 1 nq _ _ _ (λ e. omega arith) refl }
 
   module _ (r : Registers) (reply : Reply) (e : length registers ≡ 44) (rq : r ≡ registersOf registers)

@@ -112,8 +112,8 @@ module _ (m : Machine) (a : Access) (number : ℕ) where
   shows-tables : FromTables m a ((servedReply m a) .outcome) → ShowsTables m a number (lineOf number (servedReply m a))
   unfolding foundLeaf
   shows-tables h = record {
-    absent = λ s e. fault-without-load _ ((h .absent s e) .0) (ap foundLeaf e);
-    broken = λ s e. fault-without-load _ ((h .broken s e) .0) (ap foundLeaf e);
+    absent = λ s e. let k = h .absent s e in (fault-without-load _ (k .0) (ap foundLeaf e), k .1);
+    broken = λ s e. let k = h .broken s e in (fault-without-load _ (k .0) (ap foundLeaf e), k .1);
     address-of-leaf = λ text e.
         let at = line-at number (servedReply m a) text e in
         record { address = at .0; digits-are = at .1 .1; of-leaf = h .address-of-leaf (at .0) (at .1 .0) };

@@ -45,12 +45,12 @@ pub reports-are-sums : ReportsAreSums
 unfolding fileTotal traceSum traceEvents SumsWithin
 reports-are-sums lent input f = record {
   totals-are = λ id column l k fits. file-totals-are-sums lent input id column l k fits ∙ record-sums lent f (commandsOf input) id column;
-  fits-within = λ fits n id column l k.
-      sym (ap within (from-zero lent f (take n (commandsOf input)) id column))
-      ∙ ((file-fits-where-within lent input) .0 fits) .each n id column l k;
   within-fits = λ h. (file-fits-where-within lent input) .1 (record {
     each = λ n id column l k. ap within (from-zero lent f (take n (commandsOf input)) id column) ∙ h n id column l k;
   });
+  fits-within = λ fits n id column l k.
+      sym (ap within (from-zero lent f (take n (commandsOf input)) id column))
+      ∙ ((file-fits-where-within lent input) .0 fits) .each n id column l k;
 }
 
 -- totals that agree below column 14

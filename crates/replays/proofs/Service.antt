@@ -8,6 +8,7 @@ use lib.ListN.{length}
 use lib.Dec.{eqb, leb}
 use borrow.Author.Tests.{le-leb}
 use Rattle.wire.specs.Wire.{elementAt}
+use Rattle.runs.proofs.Bools.{clash}
 use Rattle.registers.specs.Refusals.{refuseUnless, drawFits}
 use Rattle.registers.specs.declared.Access.{Access}
 use Rattle.registers.specs.declared.Outcome.{Outcome}
@@ -36,8 +37,10 @@ use Rattle.trace.specs.Commands.{commandsFrom, recordCount, commandsOf}
 use Rattle.trace.specs.declared.Command.{Command}
 use Rattle.trace.specs.declared.Command.the-variants.{Serve, Store, Set, Malformed}
 use Rattle.report.proofs.FaultKinds.{counted-by-kind}
+use Rattle.report.specs.Gains.{hasColumn}
 use Rattle.replays.specs.Traces.{asksOf, traceSystem, recordEvents, traceEvents}
 use Rattle.replays.specs.Service.{AtEach, OfEach, ContextServed, KindHasColumn, FaultCounted, AccessAccepted, TracesAreServed}
+use Rattle.replays.specs.Service.{KindNot0, NoKind0}
 use Rattle.replays.proofs.Traces.{next, records-hold}
 
 -- ---- contexts
@@ -104,6 +107,19 @@ unfolding HoldsThroughout OfEach
 faults-counted s at [] h = tt
 faults-counted s at (e ∷ es) h =
     (fault-counted s e (holds-now _ _ es (h .1)), faults-counted (systemAfter s e) (After s e) es (h .1))
+
+-- a kind that has a column is not 0
+kind-not-0 : (outcome : Outcome) → KindHasColumn outcome → KindNot0 outcome
+unfolding IfFault hasColumn
+kind-not-0 (Fault value) h = λ z. clash (subst (λ (kind : ℕ). hasColumn kind ≡ true) z h) refl
+kind-not-0 (At address) h = tt
+kind-not-0 (Done emptied) h = tt
+kind-not-0 (Refused number) h = tt
+
+none-of-kind-0 : (s : System) (es : List Event) → OfEach FaultCounted s es → OfEach NoKind0 s es
+unfolding OfEach FaultCounted NoKind0
+none-of-kind-0 s [] h = tt
+none-of-kind-0 s (e ∷ es) h = (kind-not-0 (e .reply .outcome) (h .0), none-of-kind-0 (systemAfter s e) es (h .1))
 
 -- ---- accesses
 
@@ -184,5 +200,7 @@ traces-are-served lent input f =
     record {
       contexts-served = contexts-served (traceSystem lent) Start (traceEvents lent input) h;
       faults-counted = faults-counted (traceSystem lent) Start (traceEvents lent input) h;
+      no-kind-0 =
+          none-of-kind-0 (traceSystem lent) (traceEvents lent input) (faults-counted (traceSystem lent) Start (traceEvents lent input) h);
       accesses-accepted = accesses-accepted (traceSystem lent) Start (commandsOf input) (commands-drawn input) h;
     }

@@ -6,7 +6,7 @@ use mathlib.Core.List.{List, [], _∷_, _++_}
 use lib.ListN.{length, take}
 use Rattle.registers.specs.declared.Access.{Access}
 use Rattle.page_table.specs.Words.{leafValid}
-use Rattle.page_table.specs.Faults.{walkFault}
+use Rattle.page_table.specs.Faults.{walkFault, Tells}
 use Rattle.page_table.specs.declared.Found.{Found}
 use Rattle.page_table.specs.declared.Stop.{Stop}
 use Rattle.page_table.specs.declared.Walk.the-variants.{Leaf, Absent, Broken}
@@ -31,10 +31,13 @@ pub record ShowsLeaf (m : Machine) (a : Access) (text : List ℕ) : Type 0 where
   pub digits-are : take 8 text ≡ hex address
   pub of-leaf : AddressOfLeaf m a address
 
--- Where the walk finds no leaf, the line has its fault and no load; and an address behind " at " is that of the tables' leaf.
+-- Where the walk finds no leaf, the line has its fault, which tells where it stopped, and no load; and an address behind " at " is that of
+-- the tables' leaf.
 pub record ShowsTables (m : Machine) (a : Access) (number : ℕ) (line : List ℕ) : Type 0 where
-  pub absent : (s : Stop) → walkFor m a ≡ Absent s → line ≡ faultLine number (walkFault (Absent s)) 0
-  pub broken : (s : Stop) → walkFor m a ≡ Broken s → line ≡ faultLine number (walkFault (Broken s)) 0
+  pub absent : (s : Stop) → walkFor m a ≡ Absent s
+      → (line ≡ faultLine number (walkFault (Absent s)) 0) × Tells (walkFault (Absent s)) 16 s
+  pub broken : (s : Stop) → walkFor m a ≡ Broken s
+      → (line ≡ faultLine number (walkFault (Broken s)) 0) × Tells (walkFault (Broken s)) 32 s
   pub address-of-leaf : (text : List ℕ) → line ≡ decimal number ++ ascii " at " ++ text → ShowsLeaf m a text
 
 -- a line has a fault from one value to another

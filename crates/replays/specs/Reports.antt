@@ -29,8 +29,8 @@ pub record ReportIsSums (lent : Buffer) (input : List ℕ) : Type 0 where
   pub totals-are : (id column : ℕ) → id ≤ 62 → column < 14 → (fileTally lent input) .fits ≡ true
       → fileTotal lent input id column ≡ traceSum lent input id column
   -- a file is stopped exactly where such a sum passes the limit
-  pub fits-within : (fileTally lent input) .fits ≡ true → SumsWithin lent input
   pub within-fits : SumsWithin lent input → (fileTally lent input) .fits ≡ true
+  pub fits-within : (fileTally lent input) .fits ≡ true → SumsWithin lent input
 
 -- so of every file
 abbrev pub ReportsAreSums : Type 0

@@ -30,12 +30,19 @@ pub record ContextServed (s : System) : Type 0 where
   pub in-registers : s .machine .registers .context ≤ 62
   pub in-reader : s .reader .settings .context ≤ 62
 
--- a fault, if it is one, is of a kind that the report counts, 1 to 8, 16 or 32; so 0, of several hits, does not occur
+-- a fault, if it is one, is of a kind that the report counts, 1 to 8, 16 or 32
 abbrev pub KindHasColumn : Outcome → Type 0
 KindHasColumn = IfFault (λ value. hasColumn (faultKind value) ≡ true)
 
+-- and not of kind 0, that of several hits
+abbrev pub KindNot0 : Outcome → Type 0
+KindNot0 = IfFault (λ value. faultKind value ≡ 0 → ⊥)
+
 unfoldable pub FaultCounted : System → Event → Type 0
 FaultCounted s e = KindHasColumn (e .reply .outcome)
+
+unfoldable pub NoKind0 : System → Event → Type 0
+NoKind0 s e = KindNot0 (e .reply .outcome)
 
 -- an access is accepted
 unfoldable pub AccessAccepted : System → Event → Type 0
@@ -44,6 +51,7 @@ AccessAccepted s e = (given : Machine) (a : Access) → e .call ≡ ServedAccess
 pub record TraceIsServed (lent : Buffer) (input : List ℕ) : Type 0 where
   pub contexts-served : AtEach ContextServed (traceSystem lent) (traceEvents lent input)
   pub faults-counted : OfEach FaultCounted (traceSystem lent) (traceEvents lent input)
+  pub no-kind-0 : OfEach NoKind0 (traceSystem lent) (traceEvents lent input)
   pub accesses-accepted : OfEach AccessAccepted (traceSystem lent) (traceEvents lent input)
 
 -- so of every input
