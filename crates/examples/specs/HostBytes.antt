@@ -235,27 +235,20 @@ lengths =
 unfoldable pub started : Bytes
 started = record { registers = zeros 11; buffer = emptyBytes; tables = leafBytes }
 
--- a page is loaded, aged, removed and broken while its entry stands in the buffer; between, calls that are refused
+-- a page is loaded, aged and removed while its entry stands in the buffer; between, calls that are refused
 unfoldable pub asks : List HostAsk
 asks =
     Now (ToSet 5 5)
     ∷ Now (ToSet 1 7)
     ∷ Now (ToSet 2 1)
     ∷ Now (ToAccess (user false 0x2ABC 2))
-    ∷ Now (ToAccess (user true 0x2ABC 0))
     ∷ Stray (HostSetting (longer (zeros 11)) 5 5)
     ∷ StrayRaw (longer (zeros 11)) emptyBytes (user false 0x2ABC 0)
     ∷ Stray (HostAccess started (user false 0x2ABC 4))
     ∷ Now (ToStore (record { index = 1025; value = 0x90000123 }))
     ∷ Now (ToAccess (user false 0x2ABC 1))
-    ∷ Now (ToSet 1 3)
-    ∷ Now (ToAccess (user false 0x2ABC 1))
     ∷ Now (ToStore (record { index = 1025; value = 0 }))
     ∷ Now (ToAccess (user false 0x2ABC 1))
-    ∷ Now (ToStore (record { index = 1025; value = 0xD0000456 }))
-    ∷ Now (ToAccess (user false 0x2ABC 3))
-    ∷ Now (ToStore (record { index = 512; value = 0x80000000 }))
-    ∷ Now (ToAccess (user false 0x2ABC 3))
     ∷ []
 
 unfoldable pub answersOf : List HostStep → List ℕ
@@ -270,20 +263,13 @@ runs =
     ∷ 0x0000000000000000
     ∷ 0x0000000000000000
     ∷ 0x0011000000246ABC
-    ∷ 0x0010000000246ABC
     ∷ 0x0100000000000000
     ∷ 0x0100000000000000
     ∷ 0x0400000000000000
     ∷ 0x0000000000000001
     ∷ 0x0041000400000000
-    ∷ 0x0000000000000000
-    ∷ 0x0041000800000000
     ∷ 0x0000000000000001
     ∷ 0x0040031000000000
-    ∷ 0x0000000000000000
-    ∷ 0x00110000008ACABC
-    ∷ 0x0000000000000001
-    ∷ 0x0040022000000000
     ∷ [])
     ∷ []
 
