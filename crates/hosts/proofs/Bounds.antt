@@ -1,6 +1,5 @@
 -- What an answer carries has room in its bits. Assumes nothing.
 use Prim.Native.Nat.{ℕ, zero, suc, _+_, _-_, _*_, _^_, _<_}
-use mathlib.Core.Path.{_≡_, refl}
 use mathlib.Core.Bool.{Bool, true, false, cond, _||_}
 use native.Mathlib.Omega.{arith}
 use lib.Dec.{eqb, ltb}
@@ -130,19 +129,3 @@ module _ (m : Machine) (a : Access) (al : a .address < 4294967296) where
       by-walk true (Absent s) = tt
       by-walk true (Broken s) = tt
       by-walk false x = tried-within (m .registers) (m .buffer) 0
-
--- where the walk finds no leaf nothing is loaded
-unfoldable pub FoundNone : Walk → Type 0
-FoundNone (Leaf f) = ⊥
-FoundNone (Absent s) = Unit {0}
-FoundNone (Broken s) = Unit {0}
-
-pub none-loaded : (m : Machine) (a : Access) → FoundNone (walkFor m a) → (accessReply m a) .loads ≡ 0
-unfolding accessReply afterMiss triedReply FoundNone
-none-loaded m a = by-walk (missed (firstTry m a)) (walkFor m a)
-  where
-    by-walk : (t : Bool) (x : Walk) → FoundNone x
-        → (cond t (afterMiss x ((firstTry m a) .registers) (m .buffer) a) (triedReply (firstTry m a) 0)) .loads ≡ 0
-    by-walk true (Absent s) h = refl
-    by-walk true (Broken s) h = refl
-    by-walk false x h = refl

@@ -1,5 +1,5 @@
 -- Bytes of right lengths, and what they hold where a call was accepted or refused. Assumes nothing.
-use Prim.Native.Nat.{ℕ}
+use Prim.Native.Nat.{ℕ, _≤_}
 use mathlib.Core.Path.{_≡_, refl}
 use mathlib.Core.Bool.{Bool, true, false, cond, _&&_}
 use mathlib.Core.List.{List}
@@ -8,12 +8,13 @@ use borrow.Author.Tests.{eqb-true}
 use Rattle.runs.proofs.Bools.{both}
 use Rattle.wire.specs.Wire.{AreBytes}
 use Rattle.registers.specs.Fields.{registersFit}
-use Rattle.registers.specs.Refusals.{byRefusal}
+use Rattle.registers.specs.Refusals.{refuseUnless, byRefusal}
 use Rattle.registers.specs.Replies.{refused}
 use Rattle.registers.specs.declared.Registers.{Registers}
 use Rattle.registers.specs.declared.Reply.{Reply}
 use Rattle.slots.specs.Buffer.{Buffer, bufferFits}
-use Rattle.mmu_c.specs.Runs.{registersOf, registerBytes, bufferOf, bufferBytes, registersLong, bufferTaken, tablesTaken, machineOf}
+use Rattle.mmu_c.specs.Runs.{registersOf, registerBytes, bufferOf, bufferBytes, registersLong, registersTaken, bufferTaken, tablesTaken}
+use Rattle.mmu_c.specs.Runs.{machineOf}
 use Rattle.mmu_c.specs.Answers.{refusalAnswer, outcomeAnswer, replyAnswer}
 use Rattle.mmu_c.proofs.Locations.{buffer-fits}
 use Rattle.mmu_c.proofs.RunLaws.{buffer-told}
@@ -71,3 +72,15 @@ buffer-of n b bytes h k = by-test (eqb n 0)
     by-test : (t : Bool) → bufferOf (cond t (bufferBytes b) bytes) ≡ cond t b (bufferOf bytes)
     by-test true = buffer-trip b h k
     by-test false = refl
+
+-- a refusal's number lies between 1 and a bound, where the later one does whenever the test holds
+pub refused-within : (test : Bool) (number later most : ℕ) → 1 ≤ number → number ≤ most → (test ≡ true → (1 ≤ later) × (later ≤ most))
+    → (1 ≤ refuseUnless test number later) × (refuseUnless test number later ≤ most)
+unfolding refuseUnless
+refused-within true number later most low high h = h refl
+refused-within false number later most low high h = (low, high)
+
+-- registers that are taken are long enough
+pub taken-long : (bytes : List ℕ) → registersTaken bytes ≡ true → registersLong bytes ≡ true
+unfolding registersTaken
+taken-long bytes h = (both (registersLong bytes) (registersFit (registersOf bytes)) h) .0

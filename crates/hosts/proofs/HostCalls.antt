@@ -1,31 +1,27 @@
 -- A C host's calls are the unit's calls on the machine that its bytes hold. Assumes nothing.
 use Prim.Native.Nat.{ℕ, _≤_}
 use mathlib.Core.Path.{_≡_, refl, ap, _∙_}
-use mathlib.Core.Bool.{Bool, true, false, _&&_}
+use mathlib.Core.Bool.{false}
 use native.Mathlib.Omega.{arith}
 use borrow.Author.Tests.{ne-eqb}
 use Rattle.runs.proofs.Bools.{clash}
-use Rattle.registers.specs.Fields.{registersFit}
 use Rattle.registers.specs.Refusals.{refuseUnless, byRefusal}
-use Rattle.store.specs.Machine.{Machine}
 use Rattle.table_bytes.specs.TableBytes.{wordsOf}
-use Rattle.mmu_c.specs.Runs.{registersOf, bufferOf, registersLong, registersTaken, bufferTaken, tablesTaken, machineOf}
+use Rattle.mmu_c.specs.Runs.{registersOf, bufferOf, registersTaken, bufferTaken, tablesTaken, machineOf}
 use Rattle.mmu_c.specs.ServedAccess.{servedRefusal, servedNumber, servedRegisters, servedBytes}
 use Rattle.mmu_c.specs.TableStore.{storeRefusal, storeNumber, storeBytes, storeTables}
 use Rattle.mmu_c.specs.GuardedSetting.{settingRefusal, settingNumber, settingRegisters}
 use Rattle.sequence.specs.Calls.{refusal, leftBy}
 use Rattle.sequence.specs.Asks.{eventOf}
+use Rattle.sequence.proofs.Refusing.{machine-same}
 use Rattle.hosts.specs.Bytes.{Bytes, machineIn}
 use Rattle.hosts.specs.HostCalls.{HostCall, hostRefusal, hostAccepts, longRight, rightLengths, Typed, handedBytes, HostPromise}
 use Rattle.hosts.specs.HostCalls.{callIn, eventIn, HostCallsAreCalls, RefusedLeaveAll, WrongLengthsRefused}
 use Rattle.hosts.specs.HostCalls.HostCall.{HostAccess, HostStore, HostSetting}
-use Rattle.hosts.proofs.Handed.{long}
+use Rattle.hosts.proofs.Handed.{long, refused-within, taken-long}
 use Rattle.hosts.proofs.Accesses.{access-refusal, access-answer, access-registers, access-buffer}
 use Rattle.hosts.proofs.Stores.{store-refusal, store-answer, store-registers, store-buffer, store-words}
 use Rattle.hosts.proofs.Settings.{setting-refusal, setting-answer, setting-registers}
-
-machine-same : (x y : Machine) → x .registers ≡ y .registers → x .buffer ≡ y .buffer → x .words ≡ y .words → x ≡ y
-machine-same x y p q r = λ j. record { registers = p j; buffer = q j; words = r j }
 
 pub host-calls-are-calls : HostCallsAreCalls
 unfolding Typed rightLengths HostPromise hostRefusal callIn eventIn eventOf leftBy refusal machineIn machineOf
@@ -80,23 +76,16 @@ refused-leave-all now (HostSetting given number value) answer after no′ g = re
 }
 
 -- a wrong length is refused, by one of the first three tests
-first-three : (l f b t : Bool) (later : ℕ) → l && b && t ≡ false
-    → let n = refuseUnless (l && f) 1 (refuseUnless b 2 (refuseUnless t 3 later)) in (1 ≤ n) × (n ≤ 3)
-unfolding refuseUnless
-first-three true true true true later e = absurd (clash refl e)
-first-three true true true false later e = (omega arith, omega arith)
-first-three true true false t later e = (omega arith, omega arith)
-first-three true false b t later e = (omega arith, omega arith)
-first-three false f b t later e = (omega arith, omega arith)
-
 module _ (h : Bytes) (later : ℕ) where
   length-refused : longRight h ≡ false
       → let n = refuseUnless (registersTaken (h .registers)) 1 (refuseUnless (bufferTaken (h .buffer)) 2
       (refuseUnless (tablesTaken (h .tables)) 3 later)) in (1 ≤ n) × (n ≤ 3)
-  unfolding longRight registersTaken
-  length-refused =
-      first-three (registersLong (h .registers)) (registersFit (registersOf (h .registers))) (bufferTaken (h .buffer))
-      (tablesTaken (h .tables)) later
+  unfolding longRight
+  length-refused e =
+      refused-within (registersTaken (h .registers)) 1 _ 3 (omega arith) (omega arith) (λ r.
+      refused-within (bufferTaken (h .buffer)) 2 _ 3 (omega arith) (omega arith) (λ b.
+      refused-within (tablesTaken (h .tables)) 3 later 3 (omega arith) (omega arith) (λ t.
+      absurd (clash (rw (taken-long (h .registers) r, b, t) refl) e))))
 
 pub wrong-lengths-refused : WrongLengthsRefused
 unfolding rightLengths hostRefusal servedRefusal storeRefusal settingRefusal registersTaken refuseUnless

@@ -30,6 +30,8 @@ use Rattle.sequence.specs.Asks.{eventOf}
 use Rattle.sequence.specs.Systems.{System}
 use Rattle.sequence.specs.Demand3.{HandedThroughout}
 use Rattle.sequence.specs.Pages.{AddressOfLeaf, FromTables, RaisedIfAged, InvalidPageRaised, AfterAnySequence}
+use Rattle.sequence.specs.Reader.{foundLeaf}
+use Rattle.sequence.proofs.Serving.{access-no-load}
 use Rattle.sequence.proofs.Pages.{no-stale-entry, aged-page-raises}
 use Rattle.hosts.specs.Bytes.{Bytes, machineIn}
 use Rattle.hosts.specs.HostCalls.{HostCall, hostRefusal, hostAccepts, rightLengths, Typed, HostPromise, callIn, eventIn}
@@ -41,7 +43,7 @@ use Rattle.hosts.specs.Hosts.{hostSystem}
 use Rattle.hosts.specs.Pages.{StopRead, ReadFromTables, FaultBetween, ReadIfAged, AfterAnyCalls, HostNoStaleEntry}
 use Rattle.hosts.specs.Pages.{HostAgedPageRaises}
 use Rattle.hosts.proofs.Trips.{words-fit}
-use Rattle.hosts.proofs.Bounds.{AddressWithin, access-address, FoundNone, none-loaded}
+use Rattle.hosts.proofs.Bounds.{AddressWithin, access-address}
 use Rattle.hosts.proofs.HostCalls.{host-calls-are-calls, length-not-accepted}
 use Rattle.hosts.proofs.Reading.{answers-read, refusals-read}
 use Rattle.hosts.proofs.Hosts.{hosts-are-sequences}
@@ -122,12 +124,12 @@ module _ (m : Machine) (a : Access) (answer : ℕ) (d : Accessed m a answer) whe
   address-or-fault = access-address m a (omega (arith, d .narrow))
 
   -- a fault, where the walk found no leaf
-  stop-read : (value kind : ℕ) (s : Stop) → FoundNone (walkFor m a) → (accessReply m a) .outcome ≡ Fault value → Tells value kind s
+  stop-read : (value kind : ℕ) (s : Stop) → foundLeaf (walkFor m a) ≡ false → (accessReply m a) .outcome ≡ Fault value → Tells value kind s
       → StopRead answer value kind s
   unfolding OutcomeRead
   stop-read value kind s none q told =
       let f : FaultRead 0 answer value
-      = subst (λ (n : ℕ). OutcomeRead (Fault value) n answer) (none-loaded m a none)
+      = subst (λ (n : ℕ). OutcomeRead (Fault value) n answer) (access-no-load m a none)
       (subst (λ (o : Outcome). OutcomeRead o ((accessReply m a) .loads) answer) q read) in
       record {
         is-fault = f;
@@ -160,12 +162,12 @@ module _ (m : Machine) (a : Access) (answer : ℕ) (d : Accessed m a answer) whe
   fault-between low high (Refused number) loads r w = absurd w
 
   from-tables : FromTables m a ((servedReply m a) .outcome) → ReadFromTables m a answer
-  unfolding FoundNone
+  unfolding foundLeaf
   from-tables f =
       let h = subst (λ (r : Reply). FromTables m a (r .outcome)) reply-is f in
       record {
-        absent = λ s e. let k = h .absent s e in stop-read (walkFault (Absent s)) 16 s (rw e tt) (k .0) (k .1);
-        broken = λ s e. let k = h .broken s e in stop-read (walkFault (Broken s)) 32 s (rw e tt) (k .0) (k .1);
+        absent = λ s e. let k = h .absent s e in stop-read (walkFault (Absent s)) 16 s (ap foundLeaf e) (k .0) (k .1);
+        broken = λ s e. let k = h .broken s e in stop-read (walkFault (Broken s)) 32 s (ap foundLeaf e) (k .0) (k .1);
         address-of-leaf = λ e. address-read ((accessReply m a) .outcome) _ read address-or-fault e (h .address-of-leaf);
       }
 

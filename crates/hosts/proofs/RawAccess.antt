@@ -1,5 +1,5 @@
 -- A C host's raw access is the unit's. Assumes nothing.
-use Prim.Native.Nat.{ℕ, _≤_}
+use Prim.Native.Nat.{ℕ}
 use mathlib.Core.Path.{_≡_, refl, ap, _∙_}
 use mathlib.Core.Bool.{Bool, true, false, cond, _&&_}
 use mathlib.Core.List.{List}
@@ -8,7 +8,7 @@ use borrow.Author.Tests.{eqb-true, ne-eqb}
 use native.Mathlib.Omega.{arith}
 use Rattle.runs.proofs.Bools.{both, clash}
 use Rattle.registers.specs.Fields.{registersFit}
-use Rattle.registers.specs.Refusals.{refuseUnless, byRefusal, drawFits}
+use Rattle.registers.specs.Refusals.{byRefusal, drawFits}
 use Rattle.registers.specs.declared.Access.{Access}
 use Rattle.registers.specs.declared.Registers.{Registers}
 use Rattle.registers.proofs.RefusalLaws.{passed}
@@ -24,6 +24,7 @@ use Rattle.mmu_c.specs.RawAccess.{rawRefusal, translation, rawNumber, rawRegist
 use Rattle.mmu_c.proofs.Locations.{buffer-fits}
 use Rattle.hosts.specs.RawAccess.{rawReplyAnswer, registersReplied, RawAccessesAreRawAccesses, RefusedRawAccessLeavesAll}
 use Rattle.hosts.specs.RawAccess.{WrongRawLengthsRefused}
+use Rattle.hosts.proofs.Handed.{refused-within, taken-long}
 use Rattle.hosts.proofs.Trips.{registers-trip}
 
 -- what an accepted raw access was handed
@@ -78,18 +79,12 @@ raw-accesses-are-raw-accesses registers buffer a answer registers-after w g = re
   registers-are = ap registersOf (g .registers-are) ∙ registers-is registers buffer a w;
 }
 
-first-two : (l f b : Bool) (later : ℕ) → l && b ≡ false
-    → let n = refuseUnless (l && f) 1 (refuseUnless b 2 later) in (1 ≤ n) × (n ≤ 2)
-unfolding refuseUnless
-first-two true true true later e = absurd (clash refl e)
-first-two true true false later e = (omega arith, omega arith)
-first-two true false b later e = (omega arith, omega arith)
-first-two false f b later e = (omega arith, omega arith)
-
 pub wrong-raw-lengths-refused : WrongRawLengthsRefused
-unfolding rawRefusal registersTaken
-wrong-raw-lengths-refused registers buffer a =
-    first-two (registersLong registers) (registersFit (registersOf registers)) (bufferTaken buffer) (refuseUnless (drawFits (a .draw)) 4 0)
+unfolding rawRefusal
+wrong-raw-lengths-refused registers buffer a e =
+    refused-within (registersTaken registers) 1 _ 2 (omega arith) (omega arith) (λ r.
+    refused-within (bufferTaken buffer) 2 _ 2 (omega arith) (omega arith) (λ b.
+    absurd (clash (rw (taken-long registers r, b) refl) e)))
 
 pub refused-raw-access-leaves-all : RefusedRawAccessLeavesAll
 unfolding rawNumber rawRegisters byRefusal

@@ -8,7 +8,6 @@ use native.Mathlib.Omega.{arith}
 use lib.ListN.{length, take, getD}
 use lib.Seq.{take-append-seam}
 use lib.Dec.{eqb}
-use Rattle.runs.proofs.Bools.{and-false}
 use Rattle.registers.specs.Refusals.{byRefusal, drawFits}
 use Rattle.registers.specs.Replies.{refused}
 use Rattle.registers.specs.declared.Access.{Access}
@@ -29,7 +28,7 @@ use Rattle.sequence.specs.Demand3.{HoldsThroughout, Handed, HandedThroughout}
 use Rattle.sequence.specs.Asks.{Ask, callOf, eventOf, eventsOf, StraysRefused}
 use Rattle.sequence.specs.Asks.Ask.{Now}
 use Rattle.sequence.specs.Pages.{byTables, FromTables, RaisedIfAged}
-use Rattle.sequence.proofs.Serving.{access-loads}
+use Rattle.sequence.proofs.Serving.{access-no-load}
 use Rattle.sequence.proofs.Asking.{asked}
 use Rattle.sequence.proofs.Moments.{holds-from, events-append}
 use Rattle.sequence.proofs.Pages.{no-stale-now, aged-raises-now}
@@ -105,7 +104,7 @@ unfolding servedReply byRefusal
 no-load m a none = by-test (eqb (servedRefusal m a) 0)
   where
     by-test : (b : Bool) → (cond b (accessReply m a) (refused (m .registers) (servedRefusal m a))) .loads ≡ 0
-    by-test true = access-loads m a ∙ rw (none, and-false)
+    by-test true = access-no-load m a none
     by-test false = refl
 
 module _ (m : Machine) (a : Access) (number : ℕ) where

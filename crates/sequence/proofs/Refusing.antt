@@ -25,7 +25,7 @@ use Rattle.sequence.proofs.EffectLaws.{Sound, off}
 
 -- ---- a refused call
 
-machine-same : (x y : Machine) → x .registers ≡ y .registers → x .buffer ≡ y .buffer → x .words ≡ y .words → x ≡ y
+pub machine-same : (x y : Machine) → x .registers ≡ y .registers → x .buffer ≡ y .buffer → x .words ≡ y .words → x ≡ y
 machine-same x y p q r = λ j. record { registers = p j; buffer = q j; words = r j }
 
 pub record Left (m : Machine) (c : Call) (reply : Reply) (buffer : Buffer) (words : List ℕ) : Type 0 where

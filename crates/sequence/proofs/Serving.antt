@@ -7,7 +7,7 @@ use mathlib.Core.Bool.{Bool, true, false, cond, not, _&&_}
 use lib.Dec.{eqb}
 use Rattle.runs.specs.Bits.{bit}
 use Rattle.runs.specs.Counts.{lowest}
-use Rattle.runs.proofs.Bools.{both}
+use Rattle.runs.proofs.Bools.{both, and-false}
 use Rattle.runs.proofs.Counts.{count-none, none-or-some}
 use Rattle.entry.specs.Address.{vpnOf, slotOf}
 use Rattle.entry.specs.Entry.{pack}
@@ -69,6 +69,10 @@ module _ (m : Machine) (a : Access) where
       go true (Absent s) = refl
       go true (Broken s) = refl
       go false x = refl
+
+  -- where the walk finds no leaf nothing is loaded
+  pub access-no-load : foundLeaf (walkFor m a) ≡ false → (accessReply m a) .loads ≡ 0
+  access-no-load none = access-loads ∙ rw (none, and-false)
 
   pub access-keeps : Kept ((accessReply m a) .registers) (m .registers)
   unfolding accessReply afterMiss triedReply firstTry
