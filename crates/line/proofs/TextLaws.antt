@@ -3,7 +3,7 @@ use Prim.Native.Nat.{ℕ, zero, suc, _+_, _-_, _*_, _/_, _%_, _^_, _≤_, _<_}
 use mathlib.Core.Path.{_≡_, refl, sym, ap, ap₂, _∙_}
 use mathlib.Core.Bool.{Bool, true, false, cond}
 use mathlib.Core.List.{List, [], _∷_, _++_, append-assoc, append-nil}
-use native.Mathlib.Nat.{pow-suc, mod-lt}
+use native.Mathlib.Nat.{pow-suc, mod-lt, zero-add}
 use native.Mathlib.Numerals.{add-one}
 use native.Mathlib.Omega.{arith}
 use lib.ListN.{length, getD, set, take, drop, length-set, length-append, length-drop, drop-of-length-le}
@@ -11,7 +11,7 @@ use lib.Seq.{drop-cons, drop-set-lt, getD-set-same, drop-drop, take-at, drop-at,
 use lib.Dec.{ltb}
 use borrow.Rule.Slice.PartMut.{putMid, midOf, mid-len}
 use borrow.Author.Tests.{lt-ltb, le-ltb, ltb-false}
-use Rattle.line.specs.Text.{digit, digits, lengthWithin, decimalLength, overwritten, TextPut}
+use Rattle.line.specs.Text.{digit, digits, lengthWithin, decimalLength, overwritten, TextPut, Begins}
 
 pub digit-low : (d : ℕ) → d < 10 → 48 + d ≡ digit d
 unfolding digit
@@ -127,6 +127,15 @@ length-le (suc most) n (suc j) h l =
     go true e j q f = omega arith
     go false e zero q f = let big : 10 ≤ n = ltb-false n 10 e in absurd (omega arith)
     go false e (suc i) q f = let k = f i (omega arith) in omega arith
+
+-- a run over whose front a text was written
+pub begins : (run text : List ℕ) (n : ℕ) (after : List ℕ) → n ≡ length text → after ≡ overwritten run 0 text → Begins after n text
+unfolding overwritten
+begins run text n after e q =
+    record { length-is = e; text-is = ap (take n) q ∙ take-at text (drop (0 + length text) run) n (sym e) }
+
+pub put-begins : (run text : List ℕ) (n : ℕ) (after : List ℕ) → TextPut run 0 text n after → Begins after n text
+put-begins run text n after p = begins run text n after (p .behind-is ∙ zero-add (length text)) (p .run-is)
 
 -- a part of a run that has become a text
 pub laid : (run : List ℕ) (at k : ℕ) (text : List ℕ) → k ≡ length text → putMid at k run text ≡ overwritten run at text

@@ -46,3 +46,8 @@ overwritten run at text = take at run ++ (text ++ drop (at + length text) run)
 pub record TextPut (run : List ℕ) (at : ℕ) (text : List ℕ) (behind : ℕ) (after : List ℕ) : Type 0 where
   pub behind-is : behind ≡ at + length text
   pub run-is : after ≡ overwritten run at text
+
+-- a run begins with a text of so many characters
+pub record Begins (run : List ℕ) (n : ℕ) (text : List ℕ) : Type 0 where
+  pub length-is : n ≡ length text
+  pub text-is : take n run ≡ text

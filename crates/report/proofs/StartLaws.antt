@@ -1,31 +1,25 @@
 -- The start of a replay: zero tables have an index that is all 0. Assumes nothing.
 use Prim.Native.Nat.{ℕ, _+_, _*_, _/_, _≤_}
 use mathlib.Core.Path.{_≡_, refl, sym, ap, subst, _∙_}
-use mathlib.Core.Bool.{Bool, true, false, cond, _&&_}
+use mathlib.Core.Bool.{Bool, false, _&&_}
 use mathlib.Core.List.{List}
 use native.Mathlib.Omega.{arith}
 use lib.ListN.{length, getD, replicate, length-replicate}
 use lib.IntN.{ℤ, pos, natAbs}
-use lib.Dec.{eqb}
-use borrow.Author.Tests.{eq-eqb}
 use Rattle.runs.specs.Counts.{count}
 use Rattle.runs.proofs.Bools.{and-false}
 use Rattle.runs.proofs.Counts.{count-none}
 use Rattle.runs.proofs.Fills.{filled-at}
 use Rattle.runs.proofs.Pieces.{tab-is}
 use Rattle.registers.specs.declared.Reply.{Reply}
-use Rattle.registers.specs.Fields.{zeroRegisters}
-use Rattle.registers.specs.Refusals.{refuseUnless, byRefusal}
-use Rattle.registers.specs.Replies.{refused, done}
 use Rattle.page_table.specs.Words.{present}
 use Rattle.page_table.specs.Reads.{leadsOn}
-use Rattle.slots.specs.Buffer.{Buffer, bufferFits}
+use Rattle.slots.specs.Buffer.{Buffer}
 use Rattle.slots.specs.Buffer.Buffer.{Wide}
-use Rattle.slots.specs.Start.{startBuffer}
-use Rattle.control.specs.Starting.{startRefusal, startReply, startedBuffer, StartGives}
+use Rattle.control.specs.Starting.{StartGives}
 use Rattle.reach.specs.Reach.{leadsTo, directoryReached, linksTo}
 use Rattle.reach.specs.Index.{tableCount, linksFrom, linksOf, presentsOf, Indexes}
-use Rattle.trace.specs.Traces.{startMachine}
+use Rattle.trace.proofs.StartLaws.{start-machine}
 use Rattle.report.specs.Totals.{AllWithin}
 use Rattle.report.specs.Tallies.{ReplayStarts}
 
@@ -72,31 +66,12 @@ zero-total n i = filled-at (pos 0) n i
 pub zero-within : (n : ℕ) → AllWithin (replicate n (pos 0))
 zero-within n = record { each = λ i. subst (λ (z : ℤ). natAbs z ≤ 4294967295) (sym (zero-total n i)) (omega arith) }
 
--- what the call start leaves
-started-registers : (b : Buffer) → (startReply b) .registers ≡ zeroRegisters
-unfolding startReply byRefusal
-started-registers b = go (eqb (startRefusal b) 0)
-  where
-    go : (c : Bool) → (cond {A = Reply} c (done zeroRegisters 0) (refused zeroRegisters (startRefusal b))) .registers ≡ zeroRegisters
-    go true = refl
-    go false = refl
-
-started-buffer : (lent : List ℕ) → length lent ≡ 64 → startedBuffer (Wide lent) ≡ startBuffer (Wide lent)
-unfolding startedBuffer startRefusal refuseUnless byRefusal bufferFits
-started-buffer lent e = rw (eq-eqb (length lent) 64 e)
-
 module _ (lent : List ℕ) (after : Buffer) (reply : Reply) (words links presents : List ℕ) (totals : List ℤ) (n k l s : ℕ) where
   pub starts : length lent ≡ 64 → StartGives (Wide lent) after reply → n ≡ 16384 → k ≡ 16 → l ≡ 16 → s ≡ 882
       → words ≡ replicate n 0 → links ≡ replicate k 0 → presents ≡ replicate l 0 → totals ≡ replicate s (pos 0)
       → ReplayStarts (Wide lent) (reply .registers) after words links presents totals
-  unfolding startMachine
   starts e g nq kq lq sq w x p t = record {
-    machine-is =
-        λ j. record {
-          registers = (ap (λ (r : Reply). r .registers) (g .reply-is) ∙ started-registers (Wide lent)) j;
-          buffer = (g .buffer-is ∙ started-buffer lent e) j;
-          words = (w ∙ ap zeros nq) j;
-        };
+    machine-is = start-machine lent after reply words e g (w ∙ ap zeros nq);
     totals-are = t ∙ ap (λ (i : ℕ). replicate i (pos 0)) sq;
     indexed =
         let same : l ≡ k = omega arith in

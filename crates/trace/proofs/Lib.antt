@@ -2,3 +2,4 @@ pub mod RecordLaws
 pub mod StepLaws
 pub mod TraceLaws
 pub mod Blocks
+pub mod StartLaws

@@ -1,0 +1,4 @@
+pub mod FileLaws
+pub mod ReplayLaws
+pub mod EndingLaws
+pub mod ReportLaws

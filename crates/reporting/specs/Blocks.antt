@@ -1,0 +1,32 @@
+-- A block of a file.
+use Prim.Native.Nat.{ℕ, _≤_}
+use mathlib.Core.Path.{_≡_}
+use mathlib.Core.List.{List}
+use lib.ListN.{length, take}
+use lib.IntN.{ℤ}
+use Rattle.slots.specs.Buffer.{Buffer}
+use Rattle.store.specs.Machine.{Machine}
+use Rattle.trace.specs.Commands.{commandsOf}
+use Rattle.report.specs.Tallies.{tallyOf, CountGives}
+use Rattle.reporting.specs.declared.Block.{Block}
+
+-- a full block's records and bytes: a record has 8
+abbrev pub RECORDS : ℕ
+RECORDS = 8192
+
+abbrev pub BYTES : ℕ
+BYTES = 65536
+
+-- the runs that are lent to a replay: the buffer, the tables with their index, the totals, and a run that a block is read into
+abbrev pub RunsFit : (buffer words links presents : List ℕ) (totals : List ℤ) (input : List ℕ) → Type 0
+RunsFit buffer words links presents totals input =
+    (length buffer ≡ 64) × (length words ≡ 16384) × (length links ≡ 16) × (length presents ≡ 16) × (length totals ≡ 882)
+    × (length input ≡ BYTES)
+
+-- What a block promises: registers, runs and totals are those after the records of the bytes that were read, from the machine and the
+-- totals that it was handed. Which bytes are read, and whether a read failed, no contract says.
+pub record BlockGives (m : Machine) (totals : List ℤ) (b : Block) (buffer-after : Buffer) (words-after links-after presents-after : List ℕ)
+    (totals-after : List ℤ) (input-after : List ℕ) : Type 0 where
+  pub read-fits : b .read ≤ BYTES
+  pub counted : CountGives (tallyOf m totals (commandsOf (take (b .read) input-after)))
+      (record { registers = b .registers; fits = b .fits }) buffer-after words-after links-after presents-after totals-after

@@ -1,0 +1,4 @@
+pub mod Blocks
+pub mod Replays
+pub mod Endings
+pub mod Reports

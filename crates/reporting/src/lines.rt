@@ -1,0 +1,101 @@
+// The lines of a file.
+ghost use mathlib.Core.Path.{_≡_};
+ghost use Prim.Native.Nat.{_≤_};
+ghost use lib.ListN.{length};
+ghost use Rattle.line.specs.Text.{TextPut};
+ghost use Rattle.reporting.specs.Blocks.{RunsFit};
+ghost use Rattle.reporting.specs.Endings.{endingOf, endingText};
+ghost use Rattle.reporting.specs.Reports.{FileGives, FilePut, ReportFits};
+use crate::Ending;
+use crate::replays::count_file;
+
+fn ending_of(fits: bool, failed: bool) -> Ending
+    ensures { λ e. ⌜ e ≡ endingOf fits failed ⌝ }
+{
+    if !fits {
+        return Ending::Refused;
+    }
+    if failed {
+        return Ending::Unread;
+    }
+    Ending::Whole
+}
+
+// Puts the lines of a file that ended so.
+fn put_ending(out: &mut [u8], number: u64, totals: &[i64], ending: Ending) -> usize
+    requires { ⌜ (length (now out) ≡ 20480) × (length (now totals) ≡ 882) ⌝ }
+    ensures text { λ n. ⌜ TextPut (now (out .entry)) 0 (endingText number (now (totals .entry)) ending) n (now (out .exit)) ⌝ }
+    ensures room { λ n. ⌜ n ≤ length (now (out .exit)) ⌝ }
+{
+    match ending {
+        Ending::Unread => rows::put_unread(out, number),
+        Ending::Refused => rows::put_refused(out, number),
+        Ending::Whole => rows::put_report(out, number, totals),
+    }
+}
+
+// Counts an open file and puts its lines.
+fn put_counted(
+    fd: i32,
+    number: u64,
+    buffer: &mut [u64],
+    words: &mut [u32],
+    links: &mut [u32],
+    presents: &mut [u32],
+    totals: &mut [i64],
+    input: &mut [u8],
+    out: &mut [u8],
+) -> usize
+    requires { ⌜ RunsFit (now buffer) (now words) (now links) (now presents) (now totals) (now input) × (length (now out) ≡ 20480) ⌝ }
+    ensures lines { λ n. ⌜ FileGives number n (now (words .exit)) (now (input .exit)) (now (out .exit)) ⌝ }
+    ensures room { λ n. ⌜ n ≤ length (now (out .exit)) ⌝ }
+{
+    let counted = count_file(fd, buffer, words, links, presents, totals, input);
+    let last = counted.last;
+    let ending = ending_of(last.fits, last.failed);
+    put_ending(out, number, totals, ending)
+}
+
+// The same, with a buffer, an index of the tables and totals of the file's own.
+fn put_open(fd: i32, number: u64, words: &mut [u32], input: &mut [u8], out: &mut [u8]) -> usize
+    requires { ⌜ ReportFits (now words) (now input) (now out) ⌝ }
+    ensures lines { λ n. ⌜ FileGives number n (now (words .exit)) (now (input .exit)) (now (out .exit)) ⌝ }
+    ensures room { λ n. ⌜ n ≤ length (now (out .exit)) ⌝ }
+{
+    let mut buffer = [0u64; 64];
+    let mut links = [0u32; 16];
+    let mut presents = [0u32; 16];
+    let mut totals = [0i64; 882];
+    put_counted(
+        fd,
+        number,
+        &mut buffer,
+        words,
+        &mut links,
+        &mut presents,
+        &mut totals,
+        input,
+        out,
+    )
+}
+
+// Opens a file, and puts its lines; one that can't be opened is unread.
+pub fn put_lines(
+    path: &[u8],
+    number: u64,
+    words: &mut [u32],
+    input: &mut [u8],
+    out: &mut [u8],
+) -> usize
+    requires { ⌜ ReportFits (now words) (now input) (now out) ⌝ }
+    ensures lines { λ n. ⌜ FilePut number n (now (words .exit)) (now (input .exit)) (now (out .exit)) ⌝ }
+    ensures room { λ n. ⌜ n ≤ length (now (out .exit)) ⌝ }
+{
+    let fd = os::open_read(path);
+    if fd < 0 {
+        return rows::put_unread(out, number);
+    }
+    let n = put_open(fd, number, words, input, out);
+    libc::close(fd);
+    n
+}

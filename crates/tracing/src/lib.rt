@@ -1,0 +1,16 @@
+// The trace program's loop: reads records of eight bytes from standard input to its end, and writes a line for each to standard output.
+mod blocks;
+mod traces;
+
+use registers::Registers;
+pub use traces::run;
+
+// After a block: the registers; the next record's number; how many bytes were read; how many bytes the block's lines have, and whether
+// they could be written.
+pub struct Block {
+    pub registers: Registers,
+    pub number: u64,
+    pub read: usize,
+    pub length: usize,
+    pub written: bool,
+}
