@@ -4,3 +4,4 @@ pub mod Lines
 pub mod Sums
 pub mod Parts
 pub mod Reports
+pub mod Programs

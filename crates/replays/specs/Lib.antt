@@ -3,3 +3,4 @@ pub mod Service
 pub mod Lines
 pub mod Sums
 pub mod Reports
+pub mod Programs

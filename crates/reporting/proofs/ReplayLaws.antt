@@ -88,23 +88,30 @@ ends b blocks l k h = go (b .fits) (b .failed) (eqb (b .read) BYTES) (ltb blocks
 
 module _ (m : Machine) (totals : List ℤ) (b : Block) (blocks : ℕ) (buffer : Buffer) (words links presents : List ℕ) (totals′ : List ℤ)
     (input : List ℕ) (h : Reached m totals b blocks buffer words links presents totals′ input) where
+  -- the tally of the bytes before the block and of its own goes on from the first
+  pub joined-tally :
+      tallyOf m totals (commandsOf (h .before ++ take (b .read) input))
+      ≡ tallyOf ((tallyOf m totals (commandsOf (h .before))) .machine) ((tallyOf m totals (commandsOf (h .before))) .totals)
+      (commandsOf (take (b .read) input))
+  unfolding continued
+  joined-tally =
+      let first : Tally = tallyOf m totals (commandsOf (h .before)) in
+      let counted : length (h .before) ≡ 8 * (RECORDS * h .count) = omega (arith, h .full) in
+      in-blocks m totals (RECORDS * h .count) (h .before) (take (b .read) input) counted
+      ∙ ap (λ (x : Bool). cond x (tallyOf (first .machine) (first .totals) (commandsOf (take (b .read) input))) first) (h .fitted)
+
   -- one block more, behind a full one after which every total is within the limit
   pub next-block : (b .fits ≡ true) × (b .read ≡ BYTES) × (blocks < MOST) → length input ≡ BYTES
       → (b₁ : Block) (buffer₁ : Buffer) (words₁ links₁ presents₁ : List ℕ) (totals₁ : List ℤ) (input₁ : List ℕ)
       → BlockGives (record { registers = b .registers; buffer = buffer; words = words }) totals′ b₁ buffer₁ words₁ links₁ presents₁ totals₁
       input₁
       → Reached m totals b₁ (blocks + 1) buffer₁ words₁ links₁ presents₁ totals₁ input₁
-  unfolding continued
   next-block on l b₁ buffer₁ words₁ links₁ presents₁ totals₁ input₁ g =
       let here : List ℕ = take (b .read) input in
       let whole : Tally = tallyOf m totals (commandsOf (h .before ++ here)) in
-      let first : Tally = tallyOf m totals (commandsOf (h .before)) in
       let c = h .block .counted in
-      let counted : length (h .before) ≡ 8 * (RECORDS * h .count) = omega (arith, h .full) in
       let long : length here ≡ BYTES = length-take-le (b .read) input (omega (arith, on .1, l)) ∙ on .1 in
-      let same : whole ≡ tallyOf (first .machine) (first .totals) (commandsOf here) =
-      in-blocks m totals (RECORDS * h .count) (h .before) here counted
-      ∙ ap (λ (x : Bool). cond x (tallyOf (first .machine) (first .totals) (commandsOf here)) first) (h .fitted) in
+      let same = joined-tally in
       record {
         before = h .before ++ here;
         count = h .count + 1;

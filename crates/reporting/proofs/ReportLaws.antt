@@ -7,10 +7,11 @@ use mathlib.Core.Logic.{inl, inr}
 use native.Mathlib.Omega.{arith}
 use lib.Dec.{ltb}
 use lib.IntN.{ℤ, pos}
-use lib.ListN.{replicate}
-use borrow.Author.Tests.{ltb-true, ltb-false}
+use lib.ListN.{length, replicate}
+use borrow.Author.Tests.{ltb-true, ltb-false, eq-eqb}
 use Rattle.runs.proofs.Bools.{both, clash}
-use Rattle.slots.specs.Buffer.{Buffer}
+use Rattle.slots.specs.Buffer.{Buffer, bufferFits}
+use Rattle.slots.specs.Buffer.Buffer.{Wide}
 use Rattle.line.specs.Text.{TextPut}
 use Rattle.line.proofs.TextLaws.{put-begins}
 use Rattle.rows.specs.Rows.{unreadText}
@@ -22,13 +23,15 @@ use Rattle.reporting.specs.declared.Ending.{Ending}
 use Rattle.reporting.specs.declared.Replayed.{Replayed}
 
 -- a file that was replayed, and the lines of its ending
-pub file-gives : (lent : Buffer) (number n : ℕ) (buffer : Buffer) (words links presents : List ℕ) (totals : List ℤ)
-    (input out after : List ℕ) (p : Replayed) (ending : Ending)
-    → ReplayGives (startMachine lent) (replicate 882 (pos 0)) p buffer words links presents totals input
+pub file-gives : (lent : List ℕ) (number n : ℕ) (buffer : Buffer) (words links presents : List ℕ) (totals : List ℤ)
+    (input out after : List ℕ) (p : Replayed) (ending : Ending) → length lent ≡ 64
+    → ReplayGives (startMachine (Wide lent)) (replicate 882 (pos 0)) p buffer words links presents totals input
     → ending ≡ endingOf (p .last .fits) (p .last .failed) → TextPut out 0 (endingText number totals ending) n after
     → FileGives number n words input after
-file-gives lent number n buffer words links presents totals input out after p ending g e t = record {
-  lent = lent;
+unfolding bufferFits
+file-gives lent number n buffer words links presents totals input out after p ending l g e t = record {
+  lent = Wide lent;
+  lent-fits = eq-eqb (length lent) 64 l;
   buffer = buffer;
   links = links;
   presents = presents;

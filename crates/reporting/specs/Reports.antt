@@ -6,7 +6,7 @@ use mathlib.Core.List.{List}
 use mathlib.Core.Logic.{_⊎_}
 use lib.ListN.{length, replicate}
 use lib.IntN.{ℤ, pos}
-use Rattle.slots.specs.Buffer.{Buffer}
+use Rattle.slots.specs.Buffer.{Buffer, bufferFits}
 use Rattle.line.specs.Text.{Begins}
 use Rattle.rows.specs.Rows.{unreadText}
 use Rattle.trace.specs.Traces.{startMachine}
@@ -24,6 +24,7 @@ ReportFits words input out = (length words ≡ 16384) × (length input ≡ BYTES
 -- how it ended
 pub record FileGives (number n : ℕ) (words-after input-after out-after : List ℕ) : Type 0 where
   pub lent : Buffer
+  pub lent-fits : bufferFits lent ≡ true
   pub buffer : Buffer
   pub links : List ℕ
   pub presents : List ℕ

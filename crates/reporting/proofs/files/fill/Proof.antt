@@ -31,19 +31,49 @@ after-read-requires : tie.Need-after-read-requires Inv-loop μ-loop
 after-read-requires c κs = tt
 
 same-length : tie.Need-same-length Inv-loop μ-loop
-same-length c = read-length (c .before .before .before .before .before .before .before .before .before .loop .run) (c .before .before .before .before .before .before .read-some .last .1 .0) (c .before .before .before .before .before .before .before .before .before .loop .done) _ 0 (c .before .before .before .before .before .before .before .before .before .loop .inv .1) (c .before .before .before .before .before .before .before .before .before .loop .inv .0) (c .before .before .before .before .before .before .read-some .kept .1 .0)
+same-length c = read-length (c .before .before .before .before .before .before .before .before .before .loop .run) (c .before .before
+    .before .before .before .before .read-some .last .1 .0) (c .before .before .before .before .before .before .before .before .before .loop
+    .done) _ 0 (c .before .before .before .before .before .before .before .before .before .loop .inv .1) (c .before .before .before .before
+    .before .before .before .before .before .loop .inv .0) (c .before .before .before .before .before .before .read-some .kept .1 .0)
 
 returns : tie.Need-returns Inv-loop μ-loop
-returns c = let e = read-length (c .before .before .before .before .before .before .before .before .before .loop .run) (c .before .before .before .before .before .before .read-some .last .1 .0) (c .before .before .before .before .before .before .before .before .before .loop .done) _ 0 (c .before .before .before .before .before .before .before .before .before .loop .inv .1) (c .before .before .before .before .before .before .before .before .before .loop .inv .0) (c .before .before .before .before .before .before .read-some .kept .1 .0) in omega (arith, c .after-read .ensures .0, c .before .before .before .before .before .before .before .before .before .loop .inv .0)
+returns c = let e = read-length (c .before .before .before .before .before .before .before .before .before .loop .run) (c .before .before
+    .before .before .before .before .read-some .last .1 .0) (c .before .before .before .before .before .before .before .before .before .loop
+    .done) _ 0 (c .before .before .before .before .before .before .before .before .before .loop .inv .1) (c .before .before .before .before
+    .before .before .before .before .before .loop .inv .0) (c .before .before .before .before .before .before .read-some .kept .1 .0) in
+    omega (arith, c .after-read .ensures .0, c .before .before .before .before .before .before .before .before .before .loop .inv .0)
 
 add-done : tie.Need-add-done Inv-loop μ-loop
-add-done c = let f = read-fits (c .before .before .before .before .before .before .before .before .before .loop .run) (c .before .before .before .before .before .before .read-some .last .1 .0) (c .before .before .before .before .before .before .before .before .before .loop .done) _ (c .before .before .before .before .before .before .read-some .result .length) (c .before .before .before .before .before .before .before .before .before .loop .inv .1) (c .before .before .before .before .before .before .before .before .before .loop .inv .0) (c .before .before .before .before .before .before .read-some .kept .1 .0) (c .before .before .before .before .before .before .read-some .ensures) in omega (arith, c .before .before .before .before .before .before .before .before .before .before .before)
+add-done c = let f = read-fits (c .before .before .before .before .before .before .before .before .before .loop .run) (c .before .before
+    .before .before .before .before .read-some .last .1 .0) (c .before .before .before .before .before .before .before .before .before .loop
+    .done) _ (c .before .before .before .before .before .before .read-some .result .length) (c .before .before .before .before .before
+    .before .before .before .before .loop .inv .1) (c .before .before .before .before .before .before .before .before .before .loop .inv .0)
+    (c .before .before .before .before .before .before .read-some .kept .1 .0) (c .before .before .before .before .before .before .read-some
+    .ensures) in omega (arith, c .before .before .before .before .before .before .before .before .before .before .before)
 
 loop-less : tie.Need-loop-less Inv-loop μ-loop
-loop-less c = let f = read-fits (c .before .before .before .before .before .before .before .before .before .loop .run) (c .before .before .before .before .before .before .read-some .last .1 .0) (c .before .before .before .before .before .before .before .before .before .loop .done) _ (c .before .before .before .before .before .before .read-some .result .length) (c .before .before .before .before .before .before .before .before .before .loop .inv .1) (c .before .before .before .before .before .before .before .before .before .loop .inv .0) (c .before .before .before .before .before .before .read-some .kept .1 .0) (c .before .before .before .before .before .before .read-some .ensures) in let k = read-more (c .before .before .before .before .before .before .read-some .result .failed) (c .before .before .before .before .before .before .read-some .result .length) (c .before .if1 .left) in omega arith
+loop-less c = let f = read-fits (c .before .before .before .before .before .before .before .before .before .loop .run) (c .before .before
+    .before .before .before .before .read-some .last .1 .0) (c .before .before .before .before .before .before .before .before .before .loop
+    .done) _ (c .before .before .before .before .before .before .read-some .result .length) (c .before .before .before .before .before
+    .before .before .before .before .loop .inv .1) (c .before .before .before .before .before .before .before .before .before .loop .inv .0)
+    (c .before .before .before .before .before .before .read-some .kept .1 .0) (c .before .before .before .before .before .before .read-some
+    .ensures) in let k = read-more (c .before .before .before .before .before .before .read-some .result .failed) (c .before .before .before
+    .before .before .before .read-some .result .length) (c .before .if1 .left) in omega arith
 
 loop-again : tie.Need-loop-again Inv-loop μ-loop
-loop-again c = (read-fits (c .before .before .before .before .before .before .before .before .before .loop .run) (c .before .before .before .before .before .before .read-some .last .1 .0) (c .before .before .before .before .before .before .before .before .before .loop .done) _ (c .before .before .before .before .before .before .read-some .result .length) (c .before .before .before .before .before .before .before .before .before .loop .inv .1) (c .before .before .before .before .before .before .before .before .before .loop .inv .0) (c .before .before .before .before .before .before .read-some .kept .1 .0) (c .before .before .before .before .before .before .read-some .ensures), read-length (c .before .before .before .before .before .before .before .before .before .loop .run) (c .before .before .before .before .before .before .read-some .last .1 .0) (c .before .before .before .before .before .before .before .before .before .loop .done) _ 0 (c .before .before .before .before .before .before .before .before .before .loop .inv .1) (c .before .before .before .before .before .before .before .before .before .loop .inv .0) (c .before .before .before .before .before .before .read-some .kept .1 .0), refl)
+loop-again c = (
+  read-fits (c .before .before .before .before .before .before .before .before .before .loop .run) (c .before .before .before
+      .before .before .before .read-some .last .1 .0) (c .before .before .before .before .before .before .before .before .before .loop .done)
+      _ (c .before .before .before .before .before .before .read-some .result .length) (c .before .before .before .before .before .before
+      .before .before .before .loop .inv .1) (c .before .before .before .before .before .before .before .before .before .loop .inv .0) (c
+      .before .before .before .before .before .before .read-some .kept .1 .0) (c .before .before .before .before .before .before .read-some
+      .ensures),
+  read-length (c .before .before .before .before .before .before .before .before .before .loop .run) (c .before .before .before
+      .before .before .before .read-some .last .1 .0) (c .before .before .before .before .before .before .before .before .before .loop .done)
+      _ 0 (c .before .before .before .before .before .before .before .before .before .loop .inv .1) (c .before .before .before .before .before
+      .before .before .before .before .loop .inv .0) (c .before .before .before .before .before .before .read-some .kept .1 .0),
+  refl,
+)
 
 after-read-requires-2 : tie.Need-after-read-requires-2 Inv-loop μ-loop
 after-read-requires-2 c κs = tt

@@ -11,7 +11,14 @@ ending-of-requires : tie.Need-ending-of-requires
 ending-of-requires c κs = search needs
 
 put-ending-requires : tie.Need-put-ending-requires
-put-ending-requires c κs = (c .before .before .before .before .before .before .before .before .before .before .before .before .before .before .before .before .before .before .before .before .before .before .before .before .before .before .before .before .pre .1, c .before .before .before .before .before .before .totals .given ∙ c .before .before .before .before .before .before .before .before .before .before .before .before .before .before .before .before .before .before .before .before .before .before .before .before .before .before .before .before .pre .0 .4)
+put-ending-requires c κs = (
+  c .before .before .before .before .before .before .before .before .before .before .before .before .before
+      .before .before .before .before .before .before .before .before .before .before .before .before .before .before .before .pre .1,
+  c
+      .before .before .before .before .before .before .totals .given ∙ c .before .before .before .before .before .before .before .before
+      .before .before .before .before .before .before .before .before .before .before .before .before .before .before .before .before .before
+      .before .before .before .pre .0 .4,
+)
 
 same-length : tie.Need-same-length
 same-length c = search needs
@@ -35,7 +42,14 @@ same-length-7 : tie.Need-same-length-7
 same-length-7 c = search needs
 
 returns : tie.Need-returns
-returns c = (file-gives _ _ _ _ _ _ _ _ _ _ _ _ _ (c .before .before .before .before .before .before .before .before .before .before .before .before .before .before .before .before .before .before .count-file .ensures) (c .before .before .before .before .before .ending-of .ensures) (c .before .before .put-ending .ensures .0), c .before .before .put-ending .ensures .1)
+returns c = (
+  file-gives _ _ _ _ _ _ _ _ _ _ _ _ _ (c .before .before .before .before .before .before .before .before .before .before .before
+      .before .before .before .before .before .before .before .before .before .before .before .before .before .before .before .before .before
+      .before .before .before .pre .0 .0) (c .before .before .before .before .before .before .before .before .before .before .before .before
+      .before .before .before .before .before .before .count-file .ensures) (c .before .before .before .before .before .ending-of .ensures) (c
+      .before .before .put-ending .ensures .0),
+  c .before .before .put-ending .ensures .1,
+)
 
 pub put-counted-spec : {M : Type 1} → statement M
 put-counted-spec =

@@ -31,7 +31,11 @@ same-length-4 : tie.Need-same-length-4
 same-length-4 c = search needs
 
 returns-2 : tie.Need-returns-2
-returns-2 c = (opened _ _ _ _ _ (c .before .before .before .before .before .before .before .put-open .ensures .0), c .before .before .before .before .before .before .before .put-open .ensures .1)
+returns-2 c = (
+  opened _ _ _ _ _ (c .before .before .before .before .before .before .before .put-open .ensures .0),
+  c .before .before .before
+      .before .before .before .before .put-open .ensures .1,
+)
 
 pub put-lines-spec : {M : Type 1} → statement M
 put-lines-spec =

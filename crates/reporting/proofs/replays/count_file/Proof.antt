@@ -8,7 +8,17 @@ start-requires : tie.Need-start-requires
 start-requires c κs = search needs
 
 replay-requires : tie.Need-replay-requires
-replay-requires c κs = (ready-first _ _ _ _ _ _ _ (c .before .before .before .before .before .before .before .before .before .before .before .before .words .given ∙ c .before .before .before .before .before .before .before .before .before .before .before .before .before .before .before .before .before .before .before .before .before .before .before .before .before .before .pre .1) (c .before .before .before .before .before .before .totals .given ∙ c .before .before .before .before .before .before .before .before .before .before .before .before .before .before .before .before .before .before .before .before .before .before .before .before .before .before .pre .4) (c .before .before .before .before .before .before .before .before .before .before .before .before .before .before .before .start .ensures), c .before .before .before .before .before .before .before .before .before .before .before .before .before .before .before .before .before .before .before .before .before .before .before .before .before .before .pre .5)
+replay-requires c κs = (
+  ready-first _ _ _ _ _ _ _ (c .before .before .before .before .before .before .before .before .before .before .before
+      .before .words .given ∙ c .before .before .before .before .before .before .before .before .before .before .before .before .before
+      .before .before .before .before .before .before .before .before .before .before .before .before .before .pre .1) (c .before .before
+      .before .before .before .before .totals .given ∙ c .before .before .before .before .before .before .before .before .before .before
+      .before .before .before .before .before .before .before .before .before .before .before .before .before .before .before .before .pre .4)
+      (c .before .before .before .before .before .before .before .before .before .before .before .before .before .before .before .start
+      .ensures),
+  c .before .before .before .before .before .before .before .before .before .before .before .before .before .before .before
+      .before .before .before .before .before .before .before .before .before .before .before .pre .5,
+)
 
 same-length : tie.Need-same-length
 same-length c = search needs
@@ -29,7 +39,9 @@ same-length-6 : tie.Need-same-length-6
 same-length-6 c = search needs
 
 returns : tie.Need-returns
-returns c = from-start _ _ _ _ _ _ _ (c .before .before .before .before .before .before .before .before .before .before .before .before .before .before .before .before .before .before .before .before .before .before .before .before .before .before .before .start .ensures) _ _ _ _ _ _ _ (c .before .before .before .before .before .before .before .before .before .before .before .replay .ensures)
+returns c = from-start _ _ _ _ _ _ _ (c .before .before .before .before .before .before .before .before .before .before .before .before
+    .before .before .before .before .before .before .before .before .before .before .before .before .before .before .before .start .ensures)
+    _ _ _ _ _ _ _ (c .before .before .before .before .before .before .before .before .before .before .before .replay .ensures)
 
 pub count-file-spec : {M : Type 1} → statement M
 count-file-spec =

@@ -24,16 +24,36 @@ sub-write-lines : tie.Need-sub-write-lines Inv-loop μ-loop
 sub-write-lines c = omega (arith, c .before .loop .inv .1)
 
 write-lines-requires : tie.Need-write-lines-requires Inv-loop μ-loop
-write-lines-requires c κs = let v = c .before .before .before .before .before .loop .inv in let p = c .before .before .before .before .before .before .before .before .before .before .pre in (v .3 ∙ p .0, v .4 ∙ p .1, v .5 ∙ p .2)
+write-lines-requires c κs = let v = c .before .before .before .before .before .loop .inv in let p = c .before .before .before .before
+    .before .before .before .before .before .before .pre in (v .3 ∙ p .0, v .4 ∙ p .1, v .5 ∙ p .2)
 
 add-next : tie.Need-add-next Inv-loop μ-loop
-add-next c = let k = goes-on (c .before .before .before .before .before .before .before .before .before .before .before .before .before .before .loop .written) (c .before .before .before .before .before .before .before .before .before .before .before .before .before .before .loop .next) _ (c .before .before .before .before .before .before .before .before .before .before .before .before .before .loop-test .taken) in omega (arith, k)
+add-next c = let k = goes-on (c .before .before .before .before .before .before .before .before .before .before .before .before .before
+    .before .loop .written) (c .before .before .before .before .before .before .before .before .before .before .before .before .before
+    .before .loop .next) _ (c .before .before .before .before .before .before .before .before .before .before .before .before .before
+    .loop-test .taken) in omega (arith, k)
 
 loop-less : tie.Need-loop-less Inv-loop μ-loop
-loop-less c = let k = goes-on (c .before .before .before .before .before .before .before .before .before .before .before .before .before .before .loop .written) (c .before .before .before .before .before .before .before .before .before .before .before .before .before .before .loop .next) _ (c .before .before .before .before .before .before .before .before .before .before .before .before .before .loop-test .taken) in omega (arith, k)
+loop-less c = let k = goes-on (c .before .before .before .before .before .before .before .before .before .before .before .before .before
+    .before .loop .written) (c .before .before .before .before .before .before .before .before .before .before .before .before .before
+    .before .loop .next) _ (c .before .before .before .before .before .before .before .before .before .before .before .before .before
+    .loop-test .taken) in omega (arith, k)
 
 loop-again : tie.Need-loop-again Inv-loop μ-loop
-loop-again c = let v = c .before .before .before .before .before .before .before .before .before .before .before .before .before .before .loop .inv in (inr (next-file _ _ _ _ _ _ _ (v .1) (goes-on (c .before .before .before .before .before .before .before .before .before .before .before .before .before .before .loop .written) (c .before .before .before .before .before .before .before .before .before .before .before .before .before .before .loop .next) _ (c .before .before .before .before .before .before .before .before .before .before .before .before .before .loop-test .taken)) refl (c .before .before .before .before .before .before .before .before .write-lines .ensures)), omega (arith, v .1), c .before .before .before .before .before .before .before .path .given ∙ v .2, c .before .before .before .before .before .words .given ∙ v .3, c .before .before .before .input .given ∙ v .4, c .before .out .given ∙ v .5)
+loop-again c = let v = c .before .before .before .before .before .before .before .before .before .before .before .before .before .before
+    .loop .inv in (
+      inr (next-file _ _ _ _ _ _ _ (v .1) (goes-on (c .before .before .before .before .before .before .before .before .before
+          .before .before .before .before .before .loop .written) (c .before .before .before .before .before .before .before .before .before
+          .before .before .before .before .before .loop .next) _ (c .before .before .before .before .before .before .before .before .before
+          .before .before .before .before .loop-test .taken)) refl (c .before .before .before .before .before .before .before .before .write-lines
+          .ensures)),
+      omega (arith, v .1),
+      c .before .before .before .before .before .before .before .path .given ∙ v .2,
+      c .before .before
+          .before .before .before .words .given ∙ v .3,
+      c .before .before .before .input .given ∙ v .4,
+      c .before .out .given ∙ v .5,
+    )
 
 same-length : tie.Need-same-length Inv-loop μ-loop
 same-length c = c .before .loop .inv .2
@@ -48,7 +68,11 @@ same-length-4 : tie.Need-same-length-4 Inv-loop μ-loop
 same-length-4 c = c .before .loop .inv .5
 
 returns : tie.Need-returns Inv-loop μ-loop
-returns c = record { last-file = c .before .loop .inv .0; none-left = none-left (c .before .loop .written) (c .before .loop .next) _ (c .loop-test .left) }
+returns c = record {
+  last-file = c .before .loop .inv .0;
+  none-left = none-left (c .before .loop .written) (c .before .loop .next) _ (c
+      .loop-test .left);
+}
 
 pub run-spec : {M : Type 1} → statement M
 run-spec =

@@ -15,7 +15,10 @@ slice-aggregate-run : tie.Need-slice-aggregate-run
 slice-aggregate-run c = search needs
 
 run-requires : tie.Need-run-requires
-run-requires c κs = lines-fit _ (c .before .before .before .before .before .before .before .before .before .before .before .before .args .input .now) (c .before .before .before .before .before .before .before .before .before .before .before .before .args .out .now) _ _ (c .before .before .before .before .before .before .read-full .ensures) (c .before .before .before .before .before .input .given) (c .before .before .before .before .before .before .before .before .before .before .before .before .pre)
+run-requires c κs = lines-fit _ (c .before .before .before .before .before .before .before .before .before .before .before .before .args
+    .input .now) (c .before .before .before .before .before .before .before .before .before .before .before .before .args .out .now) _ _ (c
+    .before .before .before .before .before .before .read-full .ensures) (c .before .before .before .before .before .input .given) (c
+    .before .before .before .before .before .before .before .before .before .before .before .before .pre)
 
 slice-reshare-prefix-write-all : tie.Need-slice-reshare-prefix-write-all
 slice-reshare-prefix-write-all c = search needs
@@ -45,7 +48,13 @@ same-length-4 : tie.Need-same-length-4
 same-length-4 c = search needs
 
 returns : tie.Need-returns
-returns c = block-gives _ _ _ _ (c .before .before .before .before .before .before .before .before .before .before .before .before .before .before .before .before .before .before .before .before .before .before .args .input .now) _ _ _ _ _ _ (c .before .before .before .before .before .before .before .before .before .before .before .before .before .before .before .before .read-full .ensures) (c .before .before .before .before .before .before .before .before .before .before .before .before .before .before .before .input .given) (c .before .before .before .before .before .before .before .before .before .before .before .before .before .before .before .before .before .before .before .before .before .before .pre .0 .0) (c .before .before .before .before .before .before .before .before .before .run .ensures .0)
+returns c = block-gives _ _ _ _ (c .before .before .before .before .before .before .before .before .before .before .before .before .before
+    .before .before .before .before .before .before .before .before .before .args .input .now) _ _ _ _ _ _ (c .before .before .before
+    .before .before .before .before .before .before .before .before .before .before .before .before .before .read-full .ensures) (c .before
+    .before .before .before .before .before .before .before .before .before .before .before .before .before .before .input .given) (c
+    .before .before .before .before .before .before .before .before .before .before .before .before .before .before .before .before .before
+    .before .before .before .before .before .pre .0 .0) (c .before .before .before .before .before .before .before .before .before .run
+    .ensures .0)
 
 pub run-block-spec : {M : Type 1} → statement M
 run-block-spec =

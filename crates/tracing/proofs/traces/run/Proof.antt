@@ -23,7 +23,12 @@ same-length-4 : tie.Need-same-length-4
 same-length-4 c = search needs
 
 returns : tie.Need-returns
-returns c = from-start _ _ _ _ _ _ _ (start-machine _ _ _ _ (c .before .before .before .before .before .before .before .before .before .before .before .before .before .before .before .before .before .before .before .before .before .before .pre .0) (c .before .before .before .before .before .before .before .before .before .before .before .before .before .before .before .before .start .ensures) (c .before .before .before .before .before .before .before .before .before .before .before .before .before .before .before .before .before .before .before .before .before .before .pre .1)) (c .before .before .before .before .before .before .before .before .run-blocks .ensures)
+returns c = from-start _ _ _ _ _ _ _ (start-machine _ _ _ _ (c .before .before .before .before .before .before .before .before .before
+    .before .before .before .before .before .before .before .before .before .before .before .before .before .pre .0) (c .before .before
+    .before .before .before .before .before .before .before .before .before .before .before .before .before .before .start .ensures) (c
+    .before .before .before .before .before .before .before .before .before .before .before .before .before .before .before .before .before
+    .before .before .before .before .before .pre .1)) (c .before .before .before .before .before .before .before .before .run-blocks
+    .ensures)
 
 pub run-spec : {M : Type 1} → statement M
 run-spec =

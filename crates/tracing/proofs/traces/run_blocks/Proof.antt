@@ -22,31 +22,67 @@ run-block-requires : tie.Need-run-block-requires Inv-loop μ-loop
 run-block-requires c κs = (c .before .before .before .before .before .before .before .before .pre, omega arith)
 
 loop-holds : tie.Need-loop-holds Inv-loop μ-loop
-loop-holds c = (λ m h. h, refl, refl, (c .before .before .before .input .given ∙ c .before .before .before .before .before .before .before .before .before .before .before .before .before .before .before .before .before .pre .0, c .before .out .given ∙ c .before .before .before .before .before .before .before .before .before .before .before .before .before .before .before .before .before .pre .1))
+loop-holds c = (
+  λ m h. h,
+  refl,
+  refl,
+  (
+    c .before .before .before .input .given ∙ c .before .before .before .before .before .before .before
+        .before .before .before .before .before .before .before .before .before .before .pre .0,
+    c .before .out .given ∙ c .before .before
+        .before .before .before .before .before .before .before .before .before .before .before .before .before .before .before .pre .1,
+  ),
+)
 
 run-block-requires-2 : tie.Need-run-block-requires-2 Inv-loop μ-loop
-run-block-requires-2 c κs = (c .before .before .before .before .before .before .before .before .before .loop .inv .3, goes-on (c .before .before .before .before .before .before .before .before .before .loop .last) (c .before .before .before .before .before .if1 .taken) .1)
+run-block-requires-2 c κs = (
+  c .before .before .before .before .before .before .before .before .before .loop .inv .3,
+  goes-on (c .before
+      .before .before .before .before .before .before .before .before .loop .last) (c .before .before .before .before .before .if1 .taken) .1,
+)
 
 loop-less : tie.Need-loop-less Inv-loop μ-loop
-loop-less c = let on = goes-on (c .before .before .before .before .before .before .before .before .before .before .before .before .before .before .before .before .before .before .loop .last) (c .before .before .before .before .before .before .before .before .before .before .before .before .before .before .if1 .taken) in nearer _ _ _ _ _ _ _ _ (c .before .before .before .input2 .given ∙ c .before .before .before .before .before .before .before .before .before .before .before .before .before .before .before .before .before .before .loop .inv .3 .0) (c .before .before .before .before .before .before .before .before .run-block2 .ensures) (on .0) (on .1)
+loop-less c = let on = goes-on (c .before .before .before .before .before .before .before .before .before .before .before .before .before
+    .before .before .before .before .before .loop .last) (c .before .before .before .before .before .before .before .before .before .before
+    .before .before .before .before .if1 .taken) in nearer _ _ _ _ _ _ _ _ (c .before .before .before .input2 .given ∙ c .before .before
+    .before .before .before .before .before .before .before .before .before .before .before .before .before .before .before .before .loop
+    .inv .3 .0) (c .before .before .before .before .before .before .before .before .run-block2 .ensures) (on .0) (on .1)
 
 loop-again : tie.Need-loop-again Inv-loop μ-loop
-loop-again c = let now = c .before .before .before .before .before .before .before .before .before .before .before .before .before .before .before .before .before .before .loop in (λ m h. next-block m _ _ _ _ _ (now .inv .0 m h) (goes-on (now .last) (c .before .before .before .before .before .before .before .before .before .before .before .before .before .before .if1 .taken) .0) (now .inv .3 .0) _ _ _ _ _ (c .before .before .before .before .before .before .before .before .run-block2 .ensures), c .before .before .before .before .before .before .before .buffer2 .given ∙ now .inv .1, c .before .before .before .before .before .words2 .given ∙ now .inv .2, (c .before .before .before .input2 .given ∙ now .inv .3 .0, c .before .out2 .given ∙ now .inv .3 .1))
+loop-again c = let now = c .before .before .before .before .before .before .before .before .before .before .before .before .before .before
+    .before .before .before .before .loop in (
+      λ m h. next-block m _ _ _ _ _ (now .inv .0 m h) (goes-on (now .last) (c .before .before
+          .before .before .before .before .before .before .before .before .before .before .before .before .if1 .taken) .0) (now .inv .3 .0) _ _ _
+          _ _ (c .before .before .before .before .before .before .before .before .run-block2 .ensures),
+      c .before .before .before .before .before
+          .before .before .buffer2 .given ∙ now .inv .1,
+      c .before .before .before .before .before .words2 .given ∙ now .inv .2,
+      (
+        c .before
+            .before .before .input2 .given ∙ now .inv .3 .0,
+        c .before .out2 .given ∙ now .inv .3 .1,
+      ),
+    )
 
 same-length : tie.Need-same-length Inv-loop μ-loop
-same-length c = c .before .before .before .before .loop .inv .1 ∙ c .before .before .before .before .before .before .before .before .before .before .before .before .buffer .given
+same-length c = c .before .before .before .before .loop .inv .1 ∙ c .before .before .before .before .before .before .before .before .before
+    .before .before .before .buffer .given
 
 same-length-2 : tie.Need-same-length-2 Inv-loop μ-loop
-same-length-2 c = c .before .before .before .before .loop .inv .2 ∙ c .before .before .before .before .before .before .before .before .before .before .words .given
+same-length-2 c = c .before .before .before .before .loop .inv .2 ∙ c .before .before .before .before .before .before .before .before
+    .before .before .words .given
 
 same-length-3 : tie.Need-same-length-3 Inv-loop μ-loop
-same-length-3 c = c .before .before .before .before .loop .inv .3 .0 ∙ sym (c .before .before .before .before .before .before .before .before .before .before .before .before .before .before .before .before .before .before .before .before .before .before .pre .0)
+same-length-3 c = c .before .before .before .before .loop .inv .3 .0 ∙ sym (c .before .before .before .before .before .before .before
+    .before .before .before .before .before .before .before .before .before .before .before .before .before .before .before .pre .0)
 
 same-length-4 : tie.Need-same-length-4 Inv-loop μ-loop
-same-length-4 c = c .before .before .before .before .loop .inv .3 .1 ∙ sym (c .before .before .before .before .before .before .before .before .before .before .before .before .before .before .before .before .before .before .before .before .before .before .pre .1)
+same-length-4 c = c .before .before .before .before .loop .inv .3 .1 ∙ sym (c .before .before .before .before .before .before .before
+    .before .before .before .before .before .before .before .before .before .before .before .before .before .before .before .pre .1)
 
 returns : tie.Need-returns Inv-loop μ-loop
-returns c = last-block _ _ _ _ _ _ (c .before .before .before .before .loop .inv .0 _ (first-block _ _ _ _ _ _ (c .before .before .before .before .before .before .before .before .before .before .before .before .before .run-block .ensures))) (c .if1 .left)
+returns c = last-block _ _ _ _ _ _ (c .before .before .before .before .loop .inv .0 _ (first-block _ _ _ _ _ _ (c .before .before .before
+    .before .before .before .before .before .before .before .before .before .before .run-block .ensures))) (c .if1 .left)
 
 pub run-blocks-spec : {M : Type 1} → statement M
 run-blocks-spec =
