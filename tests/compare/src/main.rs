@@ -12,10 +12,12 @@
 //! Prints how often each outcome happened. An outcome fails that never happened or in which the
 //! programs differed. The last line is 'N passed, M failed'; the status is 0 where M is 0.
 
+mod blocks;
 mod calls;
 mod cases;
 mod comparison;
 mod difference;
+mod drained;
 mod exchange;
 mod expected;
 mod fault;
@@ -28,6 +30,7 @@ mod put;
 mod random;
 mod read_back;
 mod reports;
+mod request;
 mod tally;
 mod traces;
 mod witness;

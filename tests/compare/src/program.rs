@@ -1,5 +1,6 @@
 //! The program under test as a running process that can never hold up the comparison.
 
+use crate::drained;
 use std::collections::VecDeque;
 use std::io::{Read, Write};
 use std::process::{Child, ChildStdin, ChildStdout, Command, Stdio};
@@ -7,7 +8,7 @@ use std::sync::mpsc::{channel, sync_channel, Receiver, RecvTimeoutError, Sender,
 use std::thread;
 use std::time::{Duration, Instant};
 
-const PATIENCE: Duration = Duration::from_secs(20);
+pub const PATIENCE: Duration = Duration::from_secs(20);
 
 /// How long a program that is about to end is left alone between two looks at it.
 const SHORTEST_NAP: Duration = Duration::from_micros(20);
@@ -29,11 +30,23 @@ pub struct Program {
 
 impl Program {
     pub fn start(path: &str) -> Result<Program, String> {
-        Program::start_by(&mut Command::new(path))
+        let (requests, to_write) = channel();
+        let write = |input| write_all(input, to_write);
+        let mut program = Program::start_by(&mut Command::new(path), write)?;
+        program.requests = Some(requests);
+        Ok(program)
+    }
+
+    /// Starts a program that is given no input.
+    pub fn start_without_input(command: &mut Command) -> Result<Program, String> {
+        Program::start_by(command, drop)
     }
 
     /// Starts the program with one thread that writes to it and one that reads from it.
-    fn start_by(command: &mut Command) -> Result<Program, String> {
+    fn start_by(
+        command: &mut Command,
+        write: impl FnOnce(ChildStdin) + Send + 'static,
+    ) -> Result<Program, String> {
         let mut child = command
             .stdin(Stdio::piped())
             .stdout(Stdio::piped())
@@ -44,17 +57,21 @@ impl Program {
             })?;
         let input = child.stdin.take().expect("the input is a pipe");
         let output = child.stdout.take().expect("the output is a pipe");
-        let (requests, to_write) = channel();
         let (read, answers) = sync_channel(MOST_PIECES_UNREAD);
-        thread::spawn(move || write_all(input, to_write));
+        thread::spawn(move || write(input));
         thread::spawn(move || read_all(output, read));
         Ok(Program {
             child,
-            requests: Some(requests),
+            requests: None,
             block: Vec::new(),
             answers,
             unread: VecDeque::new(),
         })
+    }
+
+    /// The number of the program's process.
+    pub fn process(&self) -> u32 {
+        self.child.id()
     }
 
     /// Hands bytes to the writing thread, a block at a time; a dead program shows when its
@@ -108,36 +125,17 @@ impl Program {
         Err("the output goes on after the last answer".to_string())
     }
 
-    /// All that the program writes which is given these bytes and nothing more. The bytes come in
-    /// pieces of so many, where they are fewer than all with a pause after each.
-    pub fn output_of(
-        path: &str,
-        input: &[u8],
-        piece: usize,
-        most: usize,
-    ) -> Result<Vec<u8>, String> {
-        let mut program = Program::start(path)?;
-        for bytes in input.chunks(piece) {
-            program.send(bytes.to_vec());
-            program.send_block();
-            if bytes.len() < input.len() {
-                thread::sleep(SHORTEST_NAP);
-            }
-        }
-        program.end_input();
-        program.whole_output(most)
-    }
-
-    /// All that the program writes which the command starts, given no input.
-    pub fn output_without_input(command: &mut Command, most: usize) -> Result<Vec<u8>, String> {
-        let mut program = Program::start_by(command)?;
-        program.end_input();
-        program.whole_output(most)
+    /// All that the program writes which is given these pieces and nothing more, each when it has
+    /// read the last.
+    pub fn output_of(path: &str, pieces: Vec<Vec<u8>>, most: usize) -> Result<Vec<u8>, String> {
+        // A program that does not read all shows by what it writes.
+        let write = |input| drained::write(input, pieces).unwrap_or_default();
+        Program::start_by(&mut Command::new(path), write)?.whole_output(most)
     }
 
     /// The output to its end, after which the program ends well. More than the most that is of
     /// interest is not waited for.
-    fn whole_output(&mut self, most: usize) -> Result<Vec<u8>, String> {
+    pub fn whole_output(&mut self, most: usize) -> Result<Vec<u8>, String> {
         let mut output = Vec::new();
         while output.len() <= most {
             match self.next_piece() {

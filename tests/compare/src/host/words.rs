@@ -120,7 +120,7 @@ fn over_bytes(host: &str, requests: &[Request]) -> Result<Vec<case::Answer>, Str
 /// What the program writes for these bytes, cut into answers of these lengths.
 fn answers(path: &str, input: Vec<u8>, lengths: Vec<usize>) -> Result<Vec<Vec<u8>>, String> {
     let total: usize = lengths.iter().sum();
-    let output = Program::output_of(path, &input, input.len(), total)?;
+    let output = Program::output_of(path, vec![input], total)?;
     if output.len() != total {
         return Err(format!(
             "{path} answers {} bytes instead of {total}",

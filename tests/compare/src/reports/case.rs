@@ -12,23 +12,36 @@ pub enum CountBy {
     Counts,
 }
 
+/// How the bytes of a case come to the program.
+pub enum Comes {
+    /// They stand in a file.
+    InFile,
+    /// Through a named pipe, each piece when the last has been read.
+    InPieces(Vec<Vec<u8>>),
+    /// Through a terminal; when they have been read, the next read fails.
+    AndFail(Vec<u8>),
+}
+
 pub struct Case {
-    /// The argument. Without one the trace gets a file of its own.
+    /// The argument. Without one the trace gets a name of its own.
     pub name: Option<OsString>,
+    pub comes: Comes,
     /// What stands in the file; nothing where the name can't be read.
     pub trace: Option<Vec<u8>>,
     pub count_by: CountBy,
-    /// The outcome that the case is there for.
-    pub remark: Option<String>,
+    /// The outcomes that the case is there for, each with whether it holds, whatever the program
+    /// under test says.
+    pub outcomes: Vec<(String, bool)>,
 }
 
 impl Case {
     pub fn of(trace: Vec<u8>, count_by: CountBy) -> Case {
         Case {
             name: None,
+            comes: Comes::InFile,
             trace: Some(trace),
             count_by,
-            remark: None,
+            outcomes: Vec::new(),
         }
     }
 
@@ -47,11 +60,30 @@ impl Case {
         }
     }
 
-    pub fn remark(self, remark: String) -> Case {
+    /// The same trace through a named pipe.
+    pub fn in_pieces(trace: Vec<u8>, pieces: Vec<Vec<u8>>) -> Case {
         Case {
-            remark: Some(remark),
-            ..self
+            comes: Comes::InPieces(pieces),
+            ..Case::of(trace, CountBy::Counts)
         }
+    }
+
+    /// These bytes, and a read that fails.
+    pub fn failing(bytes: Vec<u8>) -> Case {
+        Case {
+            name: None,
+            comes: Comes::AndFail(bytes),
+            ..Case::unread(OsString::new())
+        }
+    }
+
+    pub fn remark(self, remark: String) -> Case {
+        self.with([(remark, true)])
+    }
+
+    pub fn with(mut self, outcomes: impl IntoIterator<Item = (String, bool)>) -> Case {
+        self.outcomes.extend(outcomes);
+        self
     }
 
     pub fn report(&self) -> Report {

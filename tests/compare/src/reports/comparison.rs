@@ -1,8 +1,9 @@
 //! Puts each call's arguments to both programs.
 
-use super::case::{Case, CountBy};
+use super::case::{Case, Comes, CountBy};
 use super::folder::Folder;
-use super::outcome;
+use super::terminal::Terminal;
+use super::{fifo, outcome};
 use crate::program::Program;
 use crate::tally::Tally;
 use reference::report::{ByCounts, Report};
@@ -59,10 +60,26 @@ impl Comparison {
     /// One call, with the outcome that it is there for. A program that can't be run, or ends badly,
     /// ends the comparison.
     pub fn put_call(&mut self, cases: Vec<Case>, remark: Option<&str>) -> Result<(), String> {
+        let command = Command::new(&self.program);
+        self.put_by(command, cases, remark)
+    }
+
+    /// The program's file.
+    pub fn program(&self) -> &Path {
+        &self.program
+    }
+
+    /// One call by a command that starts the program.
+    pub fn put_by(
+        &mut self,
+        command: Command,
+        cases: Vec<Case>,
+        remark: Option<&str>,
+    ) -> Result<(), String> {
         let reports: Vec<Report> = cases.iter().map(Case::report).collect();
         let texts: Vec<Vec<u8>> = reports.iter().enumerate().map(text).collect();
         let expected = texts.concat();
-        let got = self.run(&cases, expected.len())?;
+        let got = self.run(command, &cases, expected.len())?;
         for outcome in outcome::of_call(&reports).into_iter().chain(remark) {
             self.tally.add(outcome, got == expected);
         }
@@ -80,35 +97,47 @@ impl Comparison {
     }
 
     /// What the program under test prints.
-    fn run(&self, cases: &[Case], most: usize) -> Result<Vec<u8>, String> {
-        let names = self.names(cases)?;
-        let mut command = Command::new(&self.program);
+    fn run(&self, mut command: Command, cases: &[Case], most: usize) -> Result<Vec<u8>, String> {
+        let told = |problem| format!("call {}: {problem}", self.calls);
+        let mut names = Vec::new();
+        let mut terminals = Vec::new();
+        for (number, case) in cases.iter().enumerate() {
+            names.push(match &case.comes {
+                Comes::AndFail(bytes) => {
+                    let terminal = Terminal::open().map_err(told)?;
+                    let name = terminal.name();
+                    terminals.push((terminal, bytes.clone()));
+                    name
+                }
+                _ => self.name(number, case)?,
+            });
+        }
         command.args(&names).current_dir(self.folder.path());
-        let got = Program::output_without_input(&mut command, most)
-            .map_err(|problem| format!("call {}: {problem}", self.calls))?;
+        let mut program = Program::start_without_input(&mut command).map_err(told)?;
+        for (terminal, bytes) in terminals {
+            terminal.feed(bytes, program.process());
+        }
+        let got = program.whole_output(most).map_err(told)?;
         self.remove(cases, &names)?;
         Ok(got)
     }
 
-    /// The arguments. A trace without a name is written to a file.
-    fn names(&self, cases: &[Case]) -> Result<Vec<OsString>, String> {
-        let mut names = Vec::new();
-        for (number, case) in cases.iter().enumerate() {
-            names.push(match (&case.name, &case.trace) {
-                (None, Some(trace)) => {
-                    let name = format!("{}-{number}.trace", self.calls);
-                    self.folder.write(&name, trace)?;
-                    name.into()
-                }
-                (name, _) => name.clone().unwrap_or_default(),
-            });
+    /// The argument. A trace without a name is written to a file, or comes through a pipe.
+    fn name(&self, number: usize, case: &Case) -> Result<OsString, String> {
+        let (None, Some(trace)) = (&case.name, &case.trace) else {
+            return Ok(case.name.clone().unwrap_or_default());
+        };
+        let name = format!("{}-{number}.trace", self.calls);
+        match &case.comes {
+            Comes::InPieces(pieces) => fifo::feed(self.folder.path().join(&name), pieces.clone())?,
+            _ => self.folder.write(&name, trace)?,
         }
-        Ok(names)
+        Ok(name.into())
     }
 
     fn remove(&self, cases: &[Case], names: &[OsString]) -> Result<(), String> {
         for (case, name) in cases.iter().zip(names) {
-            if case.name.is_none() {
+            if case.name.is_none() && case.trace.is_some() {
                 self.folder.remove(name)?;
             }
         }
@@ -127,6 +156,9 @@ impl Comparison {
         }
         for outcome in outcome::of_file(number, case, report) {
             self.tally.add(&outcome, agreed);
+        }
+        for (outcome, holds) in &case.outcomes {
+            self.tally.add(outcome, agreed && *holds);
         }
     }
 

@@ -1,8 +1,13 @@
 //! A folder for the files of a comparison, removed with all that is in it.
 
 use std::ffi::OsStr;
-use std::fs;
+use std::fs::{self, Permissions};
+use std::os::unix::fs::PermissionsExt;
 use std::path::{Path, PathBuf};
+
+/// Everybody may read it and run it, or go there; and nobody may.
+pub const FOR_ALL: u32 = 0o755;
+pub const FOR_NOBODY: u32 = 0;
 
 pub struct Folder {
     path: PathBuf,
@@ -13,7 +18,9 @@ impl Folder {
         let name = format!("compare-reports-{}", std::process::id());
         let path = std::env::temp_dir().join(name);
         fs::create_dir(&path).map_err(|error| format!("{}: {error}", path.display()))?;
-        Ok(Folder { path })
+        let folder = Folder { path };
+        folder.allow(".", FOR_ALL)?;
+        Ok(folder)
     }
 
     pub fn path(&self) -> &Path {
@@ -31,6 +38,18 @@ impl Folder {
     /// A folder in the folder.
     pub fn make(&self, name: &str) -> Result<(), String> {
         self.told(OsStr::new(name), |path| fs::create_dir(path))
+    }
+
+    /// Sets what its users may do with a file.
+    pub fn allow(&self, name: &str, mode: u32) -> Result<(), String> {
+        self.told(OsStr::new(name), |path| {
+            fs::set_permissions(path, Permissions::from_mode(mode))
+        })
+    }
+
+    /// A copy of a file from elsewhere.
+    pub fn copy(&self, name: &str, from: &Path) -> Result<(), String> {
+        self.told(OsStr::new(name), |path| fs::copy(from, path).map(drop))
     }
 
     /// A symbolic link to what the target names, seen from the folder.

@@ -1,13 +1,19 @@
 //! Reports over trace files, each call's by a process of its own and compared byte for byte.
 
+mod across;
 mod case;
+mod columns;
 mod comparison;
 mod edges;
+mod failing;
+mod fifo;
 mod folder;
+mod forbidden;
 mod limit;
 mod names;
 mod outcome;
 mod script;
+mod terminal;
 
 use crate::random::Random;
 use crate::traces;
@@ -39,6 +45,9 @@ pub fn compare(program: &str, seed: u64, files: usize) -> Result<bool, String> {
         let cases = (0..number).map(|_| any(&mut random)).collect();
         comparison.put(cases)?;
     }
+    across::put(&mut comparison, &mut random)?;
+    failing::put(&mut comparison, &mut random)?;
+    forbidden::put(&mut comparison, &mut random)?;
     Ok(comparison.finish())
 }
 

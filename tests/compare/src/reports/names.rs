@@ -10,6 +10,9 @@ use std::os::unix::ffi::OsStrExt;
 
 const RECORDS: usize = 40;
 
+/// A directory.
+pub const FOLDER: &str = "folder";
+
 /// The longest name that can be opened, and the longest of a file in its folder.
 const LONGEST: usize = 4095;
 const LONGEST_IN_FOLDER: usize = 255;
@@ -46,7 +49,7 @@ pub fn put(comparison: &mut Comparison, random: &mut Random) -> Result<(), Strin
     for name in files() {
         folder.write(&name, &trace)?;
     }
-    folder.make("folder")?;
+    folder.make(FOLDER)?;
     folder.link("link", "f")?;
     folder.link("loop", "loop")?;
     let from_the_root = folder.path().join("f").into_os_string();
@@ -82,7 +85,7 @@ fn readable(from_the_root: OsString, trace: &[u8]) -> Vec<Case> {
 fn unreadable() -> Vec<Case> {
     let names = [
         "none".into(),
-        "folder".into(),
+        FOLDER.into(),
         OsString::new(),
         filled_up("f", LONGEST + 1),
         behind_a_file(LONGEST + 1),

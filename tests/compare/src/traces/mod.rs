@@ -1,5 +1,6 @@
 //! Whole traces, each run by a process of its own and compared byte for byte.
 
+mod across;
 mod outcome;
 pub mod record;
 pub mod script;
@@ -60,6 +61,7 @@ pub fn compare(program: &str, seed: u64, traces: usize) -> Result<bool, String> 
         };
         comparison.put(&script::trace(&mut random, records, piece))?;
     }
+    across::put(&mut comparison, &mut random)?;
     Ok(comparison.finish())
 }
 
@@ -75,6 +77,7 @@ impl Comparison<'_> {
     fn new(program: &str) -> Comparison<'_> {
         let of_runs = [AS_A_WHOLE, IN_PIECES, fault::POSSIBLE].map(String::from);
         let outcomes = outcome::all().into_iter().chain(of_runs);
+        let outcomes = outcomes.chain(across::all());
         Comparison {
             program,
             tally: Tally::expecting(outcomes),
@@ -85,34 +88,72 @@ impl Comparison<'_> {
     }
 
     fn put(&mut self, trace: &[u8]) -> Result<(), String> {
-        self.run(trace, trace.len().max(1))?;
+        self.run(trace, vec![trace.to_vec()])?;
         Ok(())
     }
 
     fn put_in_pieces(&mut self, trace: &[u8], piece: usize) -> Result<(), String> {
-        let agreed = self.run(trace, piece)?;
+        let pieces = trace.chunks(piece).map(<[u8]>::to_vec).collect();
+        let agreed = self.run(trace, pieces)?;
         self.tally.add(IN_PIECES, agreed);
         Ok(())
     }
 
-    /// Runs the trace by both programs; whether they agree. A program that can't be run, or ends
-    /// badly, ends the comparison.
-    fn run(&mut self, trace: &[u8], piece: usize) -> Result<bool, String> {
-        let expected = text_of(trace);
-        let got = Program::output_of(self.program, trace, piece, expected.len())
-            .map_err(|problem| format!("trace {}: {problem}", self.traces))?;
-        self.judge(trace, &expected, &got);
+    /// Puts a trace across blocks, of which the text alone is judged, not each record.
+    fn put_across(
+        &mut self,
+        trace: &[u8],
+        pieces: Vec<Vec<u8>>,
+        outcomes: &[(String, bool)],
+    ) -> Result<(), String> {
+        let (expected, got) = self.both_texts(trace, pieces)?;
+        let agreed = self.judge_text(trace, &expected, &got);
+        for (outcome, holds) in outcomes {
+            self.tally.add(outcome, agreed && *holds);
+        }
         self.traces += 1;
-        Ok(expected == got)
+        Ok(())
     }
 
-    fn judge(&mut self, trace: &[u8], expected: &[u8], got: &[u8]) {
+    /// Runs the trace by both programs; whether they agree.
+    fn run(&mut self, trace: &[u8], pieces: Vec<Vec<u8>>) -> Result<bool, String> {
+        let (expected, got) = self.both_texts(trace, pieces)?;
+        self.judge_records(trace, &expected, &got);
+        let agreed = self.judge_text(trace, &expected, &got);
+        self.traces += 1;
+        Ok(agreed)
+    }
+
+    /// What both programs print. A program that can't be run, or ends badly, ends the comparison.
+    fn both_texts(
+        &self,
+        trace: &[u8],
+        pieces: Vec<Vec<u8>>,
+    ) -> Result<(Vec<u8>, Vec<u8>), String> {
+        let expected = text_of(trace);
+        let got = Program::output_of(self.program, pieces, expected.len())
+            .map_err(|problem| format!("trace {}: {problem}", self.traces))?;
+        Ok((expected, got))
+    }
+
+    fn judge_text(&mut self, trace: &[u8], expected: &[u8], got: &[u8]) -> bool {
         let agreed = expected == got;
         self.tally.add(AS_A_WHOLE, agreed);
-        let (records, piece) = trace.as_chunks();
-        for outcome in whole::of(records.len(), piece.len()) {
+        let (records, piece) = (trace.len() / RECORD_BYTES, trace.len() % RECORD_BYTES);
+        for outcome in whole::of(records, piece) {
             self.tally.add(&outcome, agreed);
         }
+        self.records += records;
+        self.judge_faults(got);
+        if !agreed && self.printed < MOST_PRINTED {
+            self.printed += 1;
+            self.print_first_difference(trace, expected, got);
+        }
+        agreed
+    }
+
+    fn judge_records(&mut self, trace: &[u8], expected: &[u8], got: &[u8]) {
+        let (records, _) = trace.as_chunks();
         let mut unit = Unit::start();
         let mut lines = Lines { expected, got };
         for (number, &record) in records.iter().enumerate() {
@@ -122,12 +163,6 @@ impl Comparison<'_> {
             for outcome in before.outcomes(line, &unit) {
                 self.tally.add(&outcome, agreed);
             }
-        }
-        self.records += records.len();
-        self.judge_faults(got);
-        if !agreed && self.printed < MOST_PRINTED {
-            self.printed += 1;
-            self.print_first_difference(trace, expected, got);
         }
     }
 

@@ -46,13 +46,18 @@ pub fn of(totals: &[Totals]) -> Vec<String> {
     outcomes
 }
 
-fn above(column: usize) -> String {
-    let name = match column {
+pub fn column_name(column: usize) -> String {
+    match column {
         0 => "served accesses".to_string(),
         1 => "loads".to_string(),
         12 => "slots emptied".to_string(),
+        13 => "a net change".to_string(),
         _ => format!("faults {}", FAULTS[column - 2]),
-    };
+    }
+}
+
+fn above(column: usize) -> String {
+    let name = column_name(column);
     format!("line with {name} above 0")
 }
 

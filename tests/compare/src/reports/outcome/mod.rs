@@ -8,6 +8,8 @@ mod store;
 
 use super::case::Case;
 use super::names::{NAMED, UNREAD};
+use super::{across, failing, forbidden};
+pub use lines::column_name;
 use reference::report::Report;
 use reference::trace::RECORD_BYTES;
 
@@ -31,7 +33,7 @@ pub const PAST_BELOW: &str = "file with a net change one past the limit below ze
 pub const PAST_AND_BACK: &str = "file with a net change past the limit and back";
 
 /// Of longer traces the lines alone are looked at, not the records.
-const MOST_BYTES: usize = 1 << 17;
+const MOST_BYTES: usize = 1 << 15;
 
 pub fn all() -> Vec<String> {
     let calls = [
@@ -63,6 +65,9 @@ pub fn all() -> Vec<String> {
     }
     all.extend(lines::all());
     all.extend(records::all());
+    all.extend(across::all());
+    all.extend(failing::all());
+    all.extend(forbidden::all());
     all
 }
 
@@ -84,7 +89,6 @@ pub fn of_call(reports: &[Report]) -> Vec<&'static str> {
 
 pub fn of_file(number: usize, case: &Case, report: &Report) -> Vec<String> {
     let mut outcomes = vec![digits(number.to_string().len())];
-    outcomes.extend(case.remark.clone());
     match report {
         Report::Totals(totals) => {
             outcomes.push(TOTALS.to_string());

@@ -1,0 +1,28 @@
+//! Files of which a read fails behind good records.
+
+use super::across::short;
+use super::case::Case;
+use super::comparison::Comparison;
+use super::outcome::unread;
+use crate::blocks::{cases, BY_REPORT};
+use crate::random::Random;
+
+/// So many records are read: within a block, to its end, and in the block behind it.
+const RECORDS: [usize; 4] = [100, 8191, 8192, 12_000];
+
+pub fn all() -> Vec<String> {
+    RECORDS.map(outcome).to_vec()
+}
+
+pub fn put(comparison: &mut Comparison, random: &mut Random) -> Result<(), String> {
+    for records in RECORDS {
+        let trace = cases::trace(random, BY_REPORT, records);
+        let case = Case::failing(trace).remark(outcome(records));
+        comparison.put(vec![short(), case, short()])?;
+    }
+    Ok(())
+}
+
+fn outcome(records: usize) -> String {
+    unread(&format!("a read fails behind {records} records"))
+}
