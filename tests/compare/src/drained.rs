@@ -38,3 +38,30 @@ pub fn unread(file: &impl AsRawFd) -> io::Result<usize> {
     let bytes = request(file, FIONREAD, 0)?;
     Ok(bytes as usize)
 }
+
+#[cfg(test)]
+mod tests {
+    use super::*;
+    use std::io::Read;
+
+    #[test]
+    fn a_reader_finds_one_piece_at_a_time() {
+        let lengths = [1, 7, 8191, 1, 65_537, 3];
+        let (mut reader, writer) = io::pipe().expect("there are pipes");
+        let pieces = lengths.map(|length| vec![0; length]).to_vec();
+        let written = thread::spawn(|| write(writer, pieces));
+        let mut found = Vec::new();
+        for length in lengths {
+            // A pipe holds less than the longest piece, which is found in parts.
+            let mut left = length;
+            while left > 0 {
+                let read = reader.read(&mut [0; 100_000]).expect("the pipe is open");
+                assert!(read <= left, "{read} bytes of {left}");
+                left -= read;
+            }
+            found.push(length);
+        }
+        assert_eq!(found, lengths);
+        assert!(written.join().is_ok_and(|written| written.is_ok()));
+    }
+}

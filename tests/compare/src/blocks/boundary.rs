@@ -6,7 +6,7 @@ use reference::trace::{Line, Unit, RECORD_BYTES};
 use reference::{Outcome, Refusal};
 
 /// What a unit loses a part to.
-#[derive(Clone, Copy)]
+#[derive(Clone, Copy, Debug, PartialEq, Eq)]
 pub enum Lost {
     /// The part is as it was at the start.
     ToStart,
@@ -153,11 +153,9 @@ impl Boundary<'_> {
             Lost::ToBlock => self.found,
         };
         part.take(&mut wrong, from);
-        let behind = self.behind.iter().take(most);
+        let mut behind = self.behind.iter().take(most);
         let sees = self.reads.sees;
-        behind
-            .into_iter()
-            .any(|&record| sees.step(&mut right, record) != sees.step(&mut wrong, record))
+        behind.any(|&record| sees.step(&mut right, record) != sees.step(&mut wrong, record))
     }
 }
 

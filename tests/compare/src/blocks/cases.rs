@@ -2,7 +2,7 @@
 
 use super::crossing::{self, PHASES};
 use super::ends::{self, LENGTHS};
-use super::{boundary, every_word, Reads};
+use super::{boundary, every_word, kinds, Reads};
 use crate::random::Random;
 use reference::trace::RECORD_BYTES;
 use std::iter::StepBy;
@@ -55,8 +55,10 @@ fn first_phases(boundaries: usize) -> StepBy<Range<usize>> {
 fn case(random: &mut Random, reads: Reads, phase: usize, length: (usize, usize)) -> Case {
     let trace = crossing::trace(random, reads.block, phase, length);
     let (records, piece) = length;
+    let is_of_all_kinds = kinds::are_all_in(&trace);
     let ends = ends::of(reads, records, piece).into_iter();
-    let mut outcomes: Vec<(String, bool)> = ends.map(|outcome| (outcome, true)).collect();
+    let mut outcomes: Vec<(String, bool)> =
+        ends.map(|outcome| (outcome, is_of_all_kinds)).collect();
     outcomes.extend(boundary::of(reads, &trace));
     Case { trace, outcomes }
 }

@@ -43,10 +43,12 @@ fn is_back(phase: usize) -> bool {
     phase % 2 == 1
 }
 
-/// The tables, then all settings, of which the one that is to be changed back is changed.
+/// The tables, records that are refused, then all settings, of which the one that is to be changed
+/// back is changed.
 fn begin(first_phase: usize) -> Written {
     let mut written = Written::begin();
-    for record in scene::tables().into_iter().chain(scene::settings()) {
+    let records = scene::tables().into_iter().chain(scene::refused());
+    for record in records.chain(scene::settings()) {
         written.add(record);
     }
     if first_phase >= PHASES {

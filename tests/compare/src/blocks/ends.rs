@@ -40,7 +40,7 @@ pub fn of(reads: Reads, records: usize, piece: usize) -> Vec<String> {
 }
 
 fn length(Reads { what, .. }: Reads, records: usize) -> String {
-    format!("{what} across blocks, {records} records")
+    format!("{what} across blocks, {records} records of all kinds")
 }
 
 fn full(Reads { what, .. }: Reads) -> String {

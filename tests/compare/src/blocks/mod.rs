@@ -6,8 +6,11 @@ pub mod cases;
 mod crossing;
 pub mod ends;
 mod every_word;
+#[cfg(test)]
+pub mod faulty;
 mod filler;
 pub mod fresh;
+mod kinds;
 pub mod part;
 pub mod pieces;
 mod scene;

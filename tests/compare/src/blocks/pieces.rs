@@ -48,7 +48,8 @@ impl Pieces {
         let mut rest = bytes;
         while !rest.is_empty() {
             let at = bytes.len() - rest.len();
-            let (piece, behind) = rest.split_at(self.next(random, at, reads.block_bytes()).min(rest.len()));
+            let (piece, behind) =
+                rest.split_at(self.next(random, at, reads.block_bytes()).min(rest.len()));
             pieces.push(piece.to_vec());
             rest = behind;
         }

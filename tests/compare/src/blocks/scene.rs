@@ -4,7 +4,7 @@ use super::part::{Part, CONTEXT, CTRL, ENABLE, KBASE_HI, KBASE_LO, KSEG};
 use crate::cases::forest::{DIRECTORY_WORDS, PRESENT, TABLE_WORDS};
 use crate::protocol::Call;
 use crate::traces::record::Record;
-use reference::{Access, Registers, GLOBAL_ROOT};
+use reference::{trace, Access, Registers, GLOBAL_ROOT};
 
 /// Two identifications, each with a directory and a table of its own.
 const IDS: [u32; 2] = [5, 62];
@@ -116,6 +116,20 @@ pub fn tables() -> Vec<Record> {
         stores.extend(others.map(|low| store(own_index(id, low), leaf(PLAIN, frame(place, low)))));
     }
     stores
+}
+
+/// A record that is refused by each number there is: 5, 6, 7 and 8.
+pub fn refused() -> [Record; 4] {
+    let too_large = set(CTRL, 8);
+    [
+        set(CONTEXT, 63),
+        store(trace::TABLE_WORDS, PRESENT),
+        too_large,
+        Record {
+            index: 1,
+            ..too_large
+        },
+    ]
 }
 
 /// The identification's table goes with all its leaves, and comes again.

@@ -4,6 +4,8 @@ use super::case::{Case, CountBy};
 use super::columns;
 use super::comparison::Comparison;
 use super::names::FOLDER;
+use super::script;
+use crate::blocks::ends::LENGTHS;
 use crate::blocks::pieces::ODD;
 use crate::blocks::{cases, fresh, BY_REPORT};
 use crate::random::Random;
@@ -22,24 +24,36 @@ pub fn all() -> Vec<String> {
 }
 
 pub fn put(comparison: &mut Comparison, random: &mut Random) -> Result<(), String> {
-    for case in cases::cases(random, BY_REPORT) {
-        comparison.put(with_short(case.trace, case.outcomes))?;
+    for cases in calls(random) {
+        comparison.put(cases)?;
     }
-    for pieces in ODD {
+    comparison.put_call(with_unread(random), Some(WITH_UNREAD))
+}
+
+/// The calls of a long file and a short one. Some files book under all identifications.
+pub fn calls(random: &mut Random) -> Vec<Vec<Case>> {
+    let in_pieces = ODD.map(|pieces| {
         let trace = cases::trace(random, BY_REPORT, pieces.records(BY_REPORT));
         let cut = pieces.cut(random, &trace, BY_REPORT);
         let case = Case::in_pieces(trace, cut).remark(pieces.outcome(BY_REPORT));
-        comparison.put(vec![case, short()])?;
-    }
-    let long = || {
-        let trace = cases::trace(random, BY_REPORT, LONG);
-        Case::of(trace, CountBy::Counts)
-    };
-    comparison.put_call(with_unread(long), Some(WITH_UNREAD))
+        vec![case, short()]
+    });
+    let under_all = LENGTHS.map(|records| {
+        let trace = script::trace(random, records, 0);
+        with_short(trace, Vec::new())
+    });
+    let cases = cases::cases(random, BY_REPORT).into_iter();
+    let whole = cases.map(|case| with_short(case.trace, case.outcomes));
+    let calls = whole.chain(in_pieces).chain(under_all);
+    calls.collect()
 }
 
 /// Long files and short ones, with names between them that can't be read.
-fn with_unread(mut long: impl FnMut() -> Case) -> Vec<Case> {
+pub fn with_unread(random: &mut Random) -> Vec<Case> {
+    let mut long = || {
+        let trace = cases::trace(random, BY_REPORT, LONG);
+        Case::of(trace, CountBy::Counts)
+    };
     let missing = || Case::unread("none".into());
     let folder = || Case::unread(FOLDER.into());
     let empty = Case::of(Vec::new(), CountBy::Counts);
@@ -63,7 +77,9 @@ fn with_unread(mut long: impl FnMut() -> Case) -> Vec<Case> {
 fn with_short(trace: Vec<u8>, outcomes: Vec<(String, bool)>) -> Vec<Case> {
     let leaks = fresh::of(BY_REPORT, &trace);
     let columns = columns::of(&trace);
-    let long = Case::of(trace, CountBy::Counts).with(outcomes).with(columns);
+    let long = Case::of(trace, CountBy::Counts)
+        .with(outcomes)
+        .with(columns);
     vec![long, short().with(leaks)]
 }
 

@@ -33,7 +33,7 @@ impl Comparison {
             .map_err(|error| format!("{program} does not start: {error}"))?;
         Ok(Comparison {
             program,
-            folder: Folder::new()?,
+            folder: Folder::new("compare-reports")?,
             tally: Tally::expecting(outcome::all()),
             calls: 0,
             by_walks: 0,

@@ -15,12 +15,18 @@ pub fn all() -> Vec<String> {
 }
 
 pub fn put(comparison: &mut Comparison, random: &mut Random) -> Result<(), String> {
-    for records in RECORDS {
+    let mut calls = calls(random).into_iter();
+    calls.try_for_each(|cases| comparison.put(cases))
+}
+
+/// Each between files that are read to their end.
+pub fn calls(random: &mut Random) -> Vec<Vec<Case>> {
+    let call = |records| {
         let trace = cases::trace(random, BY_REPORT, records);
         let case = Case::failing(trace).remark(outcome(records));
-        comparison.put(vec![short(), case, short()])?;
-    }
-    Ok(())
+        vec![short(), case, short()]
+    };
+    RECORDS.map(call).into()
 }
 
 fn outcome(records: usize) -> String {

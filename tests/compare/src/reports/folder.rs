@@ -14,8 +14,8 @@ pub struct Folder {
 }
 
 impl Folder {
-    pub fn new() -> Result<Folder, String> {
-        let name = format!("compare-reports-{}", std::process::id());
+    pub fn new(name: &str) -> Result<Folder, String> {
+        let name = format!("{name}-{}", std::process::id());
         let path = std::env::temp_dir().join(name);
         fs::create_dir(&path).map_err(|error| format!("{}: {error}", path.display()))?;
         let folder = Folder { path };

@@ -68,3 +68,21 @@ fn bound(folder: &Path, program: &Path) -> Command {
 fn outcome() -> String {
     unread("no permission, so the shell may not open it either")
 }
+
+#[cfg(test)]
+mod tests {
+    use super::*;
+    use crate::reports::folder::Folder;
+
+    #[test]
+    fn permissions_bind_the_user_who_calls() {
+        let folder = Folder::new("compare-forbidden").expect("a folder can be made");
+        for (name, mode) in [(FORBIDDEN, FOR_NOBODY), (ALLOWED, FOR_ALL)] {
+            folder.write(name, b"12345678").expect("it can be written");
+            folder.allow(name, mode).expect("it can be allowed");
+        }
+        assert_eq!(shell_opens(folder.path(), ALLOWED), Ok(true));
+        assert_eq!(shell_opens(folder.path(), FORBIDDEN), Ok(false));
+        assert_eq!(shell_opens(folder.path(), "none"), Ok(false));
+    }
+}

@@ -13,6 +13,8 @@ mod limit;
 mod names;
 mod outcome;
 mod script;
+#[cfg(test)]
+mod stand_ins;
 mod terminal;
 
 use crate::random::Random;

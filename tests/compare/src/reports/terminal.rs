@@ -21,8 +21,8 @@ const TIOCGPTN: c_ulong = 0x8004_5430;
 const O_NOCTTY: i32 = 0o400;
 
 /// A program that is found to wait so many times in a row has read everything.
-const LOOKS: usize = 12;
-const NAP: Duration = Duration::from_millis(1);
+const LOOKS: usize = 40;
+const NAP: Duration = Duration::from_millis(2);
 
 pub struct Terminal {
     name: String,
@@ -85,6 +85,44 @@ impl Terminal {
 /// Whether the process waits for something. Its state stands behind its name in brackets.
 fn is_asleep(process: u32) -> bool {
     let state = fs::read_to_string(format!("/proc/{process}/stat")).unwrap_or_default();
-    let behind = state.rsplit_once(')').map(|(_, behind)| behind.trim_start());
+    let behind = state
+        .rsplit_once(')')
+        .map(|(_, behind)| behind.trim_start());
     behind.is_some_and(|behind| behind.starts_with('S'))
+}
+
+#[cfg(test)]
+mod tests {
+    use super::*;
+    use crate::program::Program;
+
+    #[test]
+    fn all_bytes_are_read_and_then_a_read_fails() {
+        for length in [1, 800, 65_536, 70_000] {
+            let bytes: Vec<u8> = (0..length).map(|n: u32| (n / 3) as u8).collect();
+            let terminal = Terminal::open().expect("there are terminals");
+            let mut shell = Command::new("/bin/sh");
+            shell.args(["-c", "cat \"$0\" 2>&-; echo $?"]);
+            shell.arg(terminal.name());
+            let mut program = Program::start_without_input(&mut shell).expect("the shell starts");
+            let process = reader_of(&program);
+            terminal.feed(bytes.clone(), process);
+            let got = program.whole_output(2 * bytes.len());
+            let expected = [&bytes[..], b"1\n"].concat();
+            assert!(got == Ok(expected), "{length} bytes");
+        }
+    }
+
+    /// The process that the shell starts to read.
+    fn reader_of(program: &Program) -> u32 {
+        let shell = program.process();
+        let children = format!("/proc/{shell}/task/{shell}/children");
+        loop {
+            let child = fs::read_to_string(&children).expect("the shell runs");
+            if let Some(child) = child.split_whitespace().next() {
+                return child.parse().expect("a process has a number");
+            }
+            thread::sleep(NAP);
+        }
+    }
 }

@@ -5,6 +5,14 @@ use crate::blocks::pieces::ODD;
 use crate::blocks::{cases, BY_TRACE};
 use crate::random::Random;
 
+pub struct Case {
+    pub trace: Vec<u8>,
+    /// The trace as it comes.
+    pub pieces: Vec<Vec<u8>>,
+    /// Each with whether it holds, whatever the program under test says.
+    pub outcomes: Vec<(String, bool)>,
+}
+
 pub fn all() -> Vec<String> {
     let mut all = BY_TRACE.all();
     all.extend(ODD.map(|pieces| pieces.outcome(BY_TRACE)));
@@ -12,15 +20,23 @@ pub fn all() -> Vec<String> {
 }
 
 pub fn put(comparison: &mut Comparison, random: &mut Random) -> Result<(), String> {
-    for case in cases::cases(random, BY_TRACE) {
-        let pieces = vec![case.trace.clone()];
-        comparison.put_across(&case.trace, pieces, &case.outcomes)?;
-    }
-    for pieces in ODD {
+    let mut cases = cases(random).into_iter();
+    cases.try_for_each(|case| comparison.put_across(case))
+}
+
+pub fn cases(random: &mut Random) -> Vec<Case> {
+    let in_pieces = ODD.map(|pieces| {
         let trace = cases::trace(random, BY_TRACE, pieces.records(BY_TRACE));
-        let outcome = (pieces.outcome(BY_TRACE), true);
-        let pieces = pieces.cut(random, &trace, BY_TRACE);
-        comparison.put_across(&trace, pieces, &[outcome])?;
-    }
-    Ok(())
+        Case {
+            pieces: pieces.cut(random, &trace, BY_TRACE),
+            trace,
+            outcomes: vec![(pieces.outcome(BY_TRACE), true)],
+        }
+    });
+    let whole = cases::cases(random, BY_TRACE).into_iter().map(|case| Case {
+        pieces: vec![case.trace.clone()],
+        trace: case.trace,
+        outcomes: case.outcomes,
+    });
+    in_pieces.into_iter().chain(whole).collect()
 }

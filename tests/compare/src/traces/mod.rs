@@ -4,6 +4,8 @@ mod across;
 mod outcome;
 pub mod record;
 pub mod script;
+#[cfg(test)]
+mod stand_ins;
 pub mod stops;
 pub mod written;
 
@@ -100,16 +102,11 @@ impl Comparison<'_> {
     }
 
     /// Puts a trace across blocks, of which the text alone is judged, not each record.
-    fn put_across(
-        &mut self,
-        trace: &[u8],
-        pieces: Vec<Vec<u8>>,
-        outcomes: &[(String, bool)],
-    ) -> Result<(), String> {
-        let (expected, got) = self.both_texts(trace, pieces)?;
-        let agreed = self.judge_text(trace, &expected, &got);
-        for (outcome, holds) in outcomes {
-            self.tally.add(outcome, agreed && *holds);
+    fn put_across(&mut self, case: across::Case) -> Result<(), String> {
+        let (expected, got) = self.both_texts(&case.trace, case.pieces)?;
+        let agreed = self.judge_text(&case.trace, &expected, &got);
+        for (outcome, holds) in case.outcomes {
+            self.tally.add(&outcome, agreed && holds);
         }
         self.traces += 1;
         Ok(())
@@ -125,11 +122,7 @@ impl Comparison<'_> {
     }
 
     /// What both programs print. A program that can't be run, or ends badly, ends the comparison.
-    fn both_texts(
-        &self,
-        trace: &[u8],
-        pieces: Vec<Vec<u8>>,
-    ) -> Result<(Vec<u8>, Vec<u8>), String> {
+    fn both_texts(&self, trace: &[u8], pieces: Vec<Vec<u8>>) -> Result<(Vec<u8>, Vec<u8>), String> {
         let expected = text_of(trace);
         let got = Program::output_of(self.program, pieces, expected.len())
             .map_err(|problem| format!("trace {}: {problem}", self.traces))?;

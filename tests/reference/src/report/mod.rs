@@ -53,7 +53,7 @@ impl Report {
     pub fn of<L: LeafWords>(input: impl Read) -> Report {
         let mut replay = Replay::<L>::start();
         match each_record(input, |record| Ok(replay.step(record)?)) {
-            Ok(_) => Report::Totals(replay.totals().to_vec()),
+            Ok(_) => Report::Totals(replay.totals),
             Err(Stop::Refused(refusal)) => Report::Refused(refusal),
             Err(Stop::Unread) => Report::Unread,
         }

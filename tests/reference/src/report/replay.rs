@@ -12,9 +12,10 @@ pub const IDENTIFICATIONS: usize = 63;
 
 #[derive(Clone, Debug)]
 pub struct Replay<L> {
-    unit: Unit,
-    leaves: L,
-    totals: Vec<Totals>,
+    pub unit: Unit,
+    pub leaves: L,
+    /// By identification.
+    pub totals: Vec<Totals>,
 }
 
 impl<L: LeafWords> Replay<L> {
@@ -24,11 +25,6 @@ impl<L: LeafWords> Replay<L> {
             leaves: L::begin(TABLE_WORDS),
             totals: vec![Totals::default(); IDENTIFICATIONS],
         }
-    }
-
-    /// By identification.
-    pub fn totals(&self) -> &[Totals] {
-        &self.totals
     }
 
     /// Makes the record's call and books it under CONTEXT as the call found it. "Totals equal those
