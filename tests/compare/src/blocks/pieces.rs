@@ -48,8 +48,8 @@ impl Pieces {
         let mut rest = bytes;
         while !rest.is_empty() {
             let at = bytes.len() - rest.len();
-            let (piece, behind) =
-                rest.split_at(self.next(random, at, reads.block_bytes()).min(rest.len()));
+            let length = self.next(random, at, reads.block_bytes());
+            let (piece, behind) = rest.split_at(length.min(rest.len()));
             pieces.push(piece.to_vec());
             rest = behind;
         }
@@ -75,5 +75,44 @@ impl Pieces {
             Pieces::UpTo(most) => format!("pieces of any length up to {most} bytes"),
         };
         format!("{what} through a pipe, {lengths}, each when the last has been read")
+    }
+}
+
+#[cfg(test)]
+mod tests {
+    use super::*;
+    use crate::blocks::BY_TRACE;
+    use reference::trace::RECORD_BYTES;
+
+    #[test]
+    fn the_pieces_are_the_whole_input_and_cut_records() {
+        let bytes: Vec<u8> = (0..140_000u32).map(|n| (n / 7) as u8).collect();
+        let mut random = Random::new(1);
+        for pieces in ODD {
+            let cut = pieces.cut(&mut random, &bytes, BY_TRACE);
+            assert_eq!(cut.concat(), bytes, "{pieces:?}");
+            let before_last = &cut[..cut.len() - 1];
+            let cuts = |piece: &Vec<u8>| piece.len() % RECORD_BYTES != 0;
+            assert!(before_last.iter().any(cuts), "{pieces:?}");
+        }
+    }
+
+    #[test]
+    fn every_byte_around_a_boundary_comes_alone() {
+        let bytes = vec![0; 3 * BY_TRACE.block_bytes()];
+        let cut = Pieces::AroundBoundaries.cut(&mut Random::new(1), &bytes, BY_TRACE);
+        let lengths: Vec<usize> = cut.iter().map(Vec::len).collect();
+        let single = [1; AROUND_BOTH];
+        let first = BY_TRACE.block_bytes() - AROUND;
+        let between = BY_TRACE.block_bytes() - AROUND_BOTH;
+        let expected = [
+            &[first],
+            &single[..],
+            &[between],
+            &single,
+            &[between],
+            &single[..AROUND],
+        ];
+        assert_eq!(lengths, expected.concat());
     }
 }
