@@ -1,7 +1,7 @@
 -- What the programs' loops promise, said of the whole input. Assumes nothing.
 use Prim.Native.Nat.{ℕ, _+_, _*_, _<_}
 use mathlib.Core.Path.{_≡_, refl, sym, ap, subst, _∙_}
-use mathlib.Core.Bool.{Bool, true, false, cond}
+use mathlib.Core.Bool.{Bool, true, false}
 use mathlib.Core.List.{List, _++_}
 use mathlib.Core.Logic.{_⊎_, inl, inr}
 use native.Mathlib.Nat.{zero-add}
@@ -9,13 +9,12 @@ use native.Mathlib.Omega.{arith}
 use lib.IntN.{ℤ, pos}
 use lib.ListN.{length, take, length-append, replicate}
 use Rattle.runs.proofs.Bools.{clash}
-use Rattle.slots.specs.Buffer.{Buffer, bufferFits}
 use Rattle.line.specs.Text.{Begins}
 use Rattle.trace.specs.Commands.{commandsOf}
 use Rattle.trace.specs.Traces.{startMachine, machineAfter, linesOf, traceText}
 use Rattle.trace.proofs.Blocks.{in-blocks, joined, first-length}
 use Rattle.tracing.specs.Blocks.{RECORDS}
-use Rattle.report.specs.Tallies.{Tally, continued, tallyOf, fileTally}
+use Rattle.report.specs.Tallies.{Tally, fileTally}
 use Rattle.reporting.specs.Blocks.{BYTES}
 use Rattle.reporting.specs.Replays.{MOST, EndsAt}
 use Rattle.reporting.specs.Endings.{endingOf, endingText}

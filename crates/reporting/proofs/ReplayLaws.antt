@@ -21,7 +21,7 @@ use Rattle.report.specs.Ready.{Ready}
 use Rattle.report.specs.Tallies.{Tally, continued, tallyOf, CountGives, ReplayStarts}
 use Rattle.report.proofs.TallyLaws.{in-blocks}
 use Rattle.reporting.specs.Blocks.{RECORDS, BYTES, BlockGives}
-use Rattle.reporting.specs.Replays.{Reached, MOST, EndsAt, ReplayGives}
+use Rattle.reporting.specs.Replays.{Reached, MOST, goesOn, EndsAt, ReplayGives}
 use Rattle.reporting.specs.declared.Block.{Block}
 use Rattle.reporting.specs.declared.Replayed.{Replayed}
 
@@ -58,12 +58,9 @@ unfolding tallyOf commandsOf commandsFrom recordCount
 first-block m totals b buffer words links presents totals′ input g =
     record { before = []; count = 0; full = refl; blocks-are = refl; fitted = refl; block = g }
 
--- the test by which the loop goes on
-abbrev pub goesOn : Block → (blocks : ℕ) → Bool
-goesOn b blocks = ((b .fits && not (b .failed)) && eqb (b .read) BYTES) && ltb blocks MOST
-
 -- where it goes on, every total is within the limit, the block is full, and there is a next number
 pub goes-on : (b : Block) (blocks : ℕ) → goesOn b blocks ≡ true → (b .fits ≡ true) × (b .read ≡ BYTES) × (blocks < MOST)
+unfolding goesOn
 goes-on b blocks h =
     let t = both ((b .fits && not (b .failed)) && eqb (b .read) BYTES) (ltb blocks MOST) h in
     let s = both (b .fits && not (b .failed)) (eqb (b .read) BYTES) (t .0) in (
@@ -74,6 +71,7 @@ goes-on b blocks h =
 
 -- where it does not, the block is the last one for a reason
 pub ends : (b : Block) (blocks : ℕ) → b .read ≤ BYTES → blocks ≤ MOST → goesOn b blocks ≡ false → EndsAt b blocks
+unfolding goesOn
 ends b blocks l k h = go (b .fits) (b .failed) (eqb (b .read) BYTES) (ltb blocks MOST) refl refl refl refl h
   where
     go : (fits failed full less : Bool) → b .fits ≡ fits → b .failed ≡ failed → eqb (b .read) BYTES ≡ full → ltb blocks MOST ≡ less

@@ -1,10 +1,11 @@
 -- A file that is read block by block.
 use Prim.Native.Nat.{ℕ, _+_, _*_, _<_}
 use mathlib.Core.Path.{_≡_}
-use mathlib.Core.Bool.{true, false}
+use mathlib.Core.Bool.{Bool, true, false, not, _&&_}
 use mathlib.Core.List.{List}
 use mathlib.Core.Logic.{_⊎_}
 use lib.ListN.{length}
+use lib.Dec.{eqb, ltb}
 use lib.IntN.{ℤ}
 use Rattle.slots.specs.Buffer.{Buffer}
 use Rattle.store.specs.Machine.{Machine}
@@ -29,6 +30,10 @@ pub record Reached (m : Machine) (totals : List ℤ) (b : Block) (blocks : ℕ) 
 -- the most blocks of a file
 abbrev pub MOST : ℕ
 MOST = 18446744073709551615
+
+-- a block is followed by another, where there are so many: every total is within the limit, no read failed, and it is full
+unfoldable pub goesOn : Block → (blocks : ℕ) → Bool
+goesOn b blocks = ((b .fits && not (b .failed)) && eqb (b .read) BYTES) && ltb blocks MOST
 
 -- why no block follows one: a total has passed the limit, a read failed, the block is not full, or it is the last of the most blocks
 abbrev pub EndsAt : Block → (blocks : ℕ) → Type 0

@@ -6,13 +6,24 @@ ghost use Rattle.slots.specs.Buffer.{Buffer};
 ghost use Rattle.trace.specs.Traces.{startMachine};
 ghost use Rattle.report.specs.Ready.{Ready};
 ghost use Rattle.reporting.specs.Blocks.{BYTES, RunsFit};
-ghost use Rattle.reporting.specs.Replays.{ReplayGives};
+ghost use Rattle.reporting.specs.Replays.{ReplayGives, goesOn};
+use crate::Block;
 use crate::Replayed;
 use crate::blocks::count_block;
 use registers::Registers;
 
 // A full block has 8,192 records.
 const BLOCK: usize = 65536;
+
+// The most blocks of a file.
+const MOST: u64 = 18446744073709551615;
+
+// Whether a block is followed by another, where there are so many: it is full, no read failed, and every total is within the limit.
+fn goes_on(b: Block, blocks: u64) -> bool
+    ensures { λ g. ⌜ g ≡ goesOn b blocks ⌝ }
+{
+    b.fits & !b.failed & (b.read == BLOCK) & (blocks < MOST)
+}
 
 // Counts one block after the other, and answers the last one: it is not full, a read failed in it, or a total passed the limit. A proved
 // loop has to end, and nothing says that the file does: it counts its blocks too.
@@ -34,7 +45,7 @@ fn replay(
 {
     let mut last = count_block(fd, r, buffer, words, links, presents, totals, input);
     let mut blocks: u64 = 1;
-    while last.fits & !last.failed & (last.read == BLOCK) & (blocks < u64::MAX) {
+    while goes_on(last, blocks) {
         let registers = last.registers;
         last = count_block(fd, registers, buffer, words, links, presents, totals, input);
         blocks += 1;

@@ -16,7 +16,7 @@ use Rattle.trace.specs.Commands.{recordCount, commandsOf, commandsFrom}
 use Rattle.trace.specs.Traces.{machineAfter}
 use Rattle.trace.proofs.Blocks.{in-blocks}
 use Rattle.tracing.specs.Blocks.{RECORDS, BYTES, LAST, BlockGives}
-use Rattle.tracing.specs.Traces.{Reached, EndsAt, TraceGives}
+use Rattle.tracing.specs.Traces.{Reached, goesOn, EndsAt, TraceGives}
 use Rattle.tracing.specs.declared.Block.{Block}
 use Rattle.tracing.proofs.BlockLaws.{records-of}
 
@@ -26,12 +26,9 @@ pub first-block : (m : Machine) (b : Block) (buffer : Buffer) (words input out :
 unfolding commandsOf commandsFrom recordCount machineAfter
 first-block m b buffer words input out g = record { before = []; blocks = 0; full = refl; block = g }
 
--- the test by which the loop goes on
-abbrev pub goesOn : Block → Bool
-goesOn b = (b .written && eqb (b .read) BYTES) && leb (b .number) LAST
-
 -- where it goes on, the block is full and the number within the limit
 pub goes-on : (b : Block) → goesOn b ≡ true → (b .read ≡ BYTES) × (b .number ≤ LAST)
+unfolding goesOn
 goes-on b h =
     let t = both (b .written && eqb (b .read) BYTES) (leb (b .number) LAST) h in (
       eqb-true (b .read) BYTES (both (b .written) (eqb (b .read) BYTES) (t .0) .1),
@@ -40,6 +37,7 @@ goes-on b h =
 
 -- where it does not, the block is the last one for a reason
 pub ends : (b : Block) → b .read ≤ BYTES → goesOn b ≡ false → EndsAt b
+unfolding goesOn
 ends b l h = go (b .written) (eqb (b .read) BYTES) (leb (b .number) LAST) refl refl refl h
   where
     go : (w f n : Bool) → b .written ≡ w → eqb (b .read) BYTES ≡ f → leb (b .number) LAST ≡ n → (w && f) && n ≡ false → EndsAt b

@@ -1,10 +1,11 @@
 -- A trace that is read block by block.
 use Prim.Native.Nat.{ℕ, _*_, _<_}
 use mathlib.Core.Path.{_≡_}
-use mathlib.Core.Bool.{false}
+use mathlib.Core.Bool.{Bool, false, _&&_}
 use mathlib.Core.List.{List}
 use mathlib.Core.Logic.{_⊎_}
 use lib.ListN.{length}
+use lib.Dec.{eqb, leb}
 use Rattle.slots.specs.Buffer.{Buffer}
 use Rattle.store.specs.Machine.{Machine}
 use Rattle.trace.specs.Commands.{commandsOf}
@@ -19,6 +20,10 @@ pub record Reached (m : Machine) (b : Block) (buffer-after : Buffer) (words-afte
   pub blocks : ℕ
   pub full : length before ≡ BYTES * blocks
   pub block : BlockGives (machineAfter m (commandsOf before)) (RECORDS * blocks) b buffer-after words-after input-after out-after
+
+-- a block is followed by another: its lines could be written, it is full, and the record number is within the limit
+unfoldable pub goesOn : Block → Bool
+goesOn b = (b .written && eqb (b .read) BYTES) && leb (b .number) LAST
 
 -- why no block follows one: it is not full, its lines could not be written, or the record number has passed the limit
 abbrev pub EndsAt : Block → Type 0

@@ -4,7 +4,7 @@ ghost use lib.ListN.{length, replicate};
 ghost use Rattle.slots.specs.Buffer.{Buffer};
 ghost use Rattle.trace.specs.Traces.{startMachine};
 ghost use Rattle.tracing.specs.Blocks.{LinesFit};
-ghost use Rattle.tracing.specs.Traces.{TraceGives};
+ghost use Rattle.tracing.specs.Traces.{TraceGives, goesOn};
 use crate::Block;
 use crate::blocks::run_block;
 use registers::Registers;
@@ -14,6 +14,13 @@ const BLOCK: usize = 8192;
 
 // No block begins behind this record number.
 const LAST: u64 = 18446744073709500000;
+
+// Whether a block is followed by another: it is full, its lines could be written, and the record number is within the limit.
+fn goes_on(b: Block) -> bool
+    ensures { λ g. ⌜ g ≡ goesOn b ⌝ }
+{
+    b.written & (b.read == BLOCK) & (b.number <= LAST)
+}
 
 // Runs one block after the other, and answers the last one: it is not full, or its lines could not be written. A proved loop has to end,
 // and nothing says that the input does: a block whose record number has passed the limit is the last one too.
@@ -30,7 +37,7 @@ fn run_blocks(
         (Buffer.Wide (now (buffer .exit))) (now (words .exit)) (now (input .exit)) (now (out .exit)) ⌝ }
 {
     let mut last = run_block(r, buffer, words, 0, input, out);
-    while last.written & (last.read == BLOCK) & (last.number <= LAST) {
+    while goes_on(last) {
         let registers = last.registers;
         last = run_block(registers, buffer, words, last.number, input, out);
     }

@@ -13,7 +13,8 @@ replay-requires c κs = (
       .before .words .given ∙ c .before .before .before .before .before .before .before .before .before .before .before .before .before
       .before .before .before .before .before .before .before .before .before .before .before .before .before .pre .1) (c .before .before
       .before .before .before .before .totals .given ∙ c .before .before .before .before .before .before .before .before .before .before
-      .before .before .before .before .before .before .before .before .before .before .before .before .before .before .before .before .pre .4)
+      .before .before .before .before .before .before .before .before .before .before .before .before .before .before .before .before .pre
+      .4)
       (c .before .before .before .before .before .before .before .before .before .before .before .before .before .before .before .start
       .ensures),
   c .before .before .before .before .before .before .before .before .before .before .before .before .before .before .before

@@ -24,7 +24,7 @@ Inv-loop fd buffer₀ words₀ links₀ presents₀ totals₀ input₀ last₀ b
 
 abbrev μ-loop : tie.MeasureT-loop
 μ-loop fd buffer₀ words₀ links₀ presents₀ totals₀ input₀ last₀ blocks₀ buffer words links presents totals input last blocks =
-    18446744073709551616 - blocks
+    MOST - blocks
 
 count-block-requires : tie.Need-count-block-requires Inv-loop μ-loop
 count-block-requires c κs = c .before .before .before .before .before .before .before .before .before .before .before .pre
@@ -47,81 +47,87 @@ loop-holds c = (
   omega arith,
 )
 
+goes-on-requires : tie.Need-goes-on-requires Inv-loop μ-loop
+goes-on-requires c κs = tt
+
 count-block-requires-2 : tie.Need-count-block-requires-2 Inv-loop μ-loop
-count-block-requires-2 c κs = let on = goes-on (c .before .before .before .before .before .before .before .before .before .before .before
-    .loop .last) (c .before .before .before .before .before .before .before .before .before .before .before .loop .blocks) (c .before
-    .before .before .before .before .before .before .if1 .taken) in (
-      c .before .before .before .before .before .before .before .before
-          .before .before .before .loop .inv .1 (on .0),
-      c .before .before .before .before .before .before .before .before .before .before .before
-          .loop .inv .7,
-    )
+count-block-requires-2 c κs = (
+  c .before .before .before .before .before .before .before .before .before .loop .inv .1 (goes-on (c .before
+      .before .before .before .before .before .before .before .before .loop .last) (c .before .before .before .before .before .before .before
+      .before .before .loop .blocks) (sym (c .before .before .before .before .before .before .before .before .goes-on .ensures) ∙ c .before
+      .before .before .before .before .before .before .if1 .taken) .0),
+  c .before .before .before .before .before .before .before .before
+      .before .loop .inv .7,
+)
 
 add-blocks : tie.Need-add-blocks Inv-loop μ-loop
 add-blocks c = let on = goes-on (c .before .before .before .before .before .before .before .before .before .before .before .before .before
-    .before .before .before .before .before .before .before .before .before .before .loop .last) (c .before .before .before .before .before
+    .before .before .before .before .before .before .before .before .loop .last) (c .before .before .before .before .before .before .before
+    .before .before .before .before .before .before .before .before .before .before .before .before .before .before .loop .blocks) (sym (c
     .before .before .before .before .before .before .before .before .before .before .before .before .before .before .before .before .before
-    .before .loop .blocks) (c .before .before .before .before .before .before .before .before .before .before .before .before .before
-    .before .before .before .before .before .before .if1 .taken) in omega (arith, on .2)
+    .before .before .before .goes-on .ensures) ∙ c .before .before .before .before .before .before .before .before .before .before .before
+    .before .before .before .before .before .before .before .before .if1 .taken) in omega (arith, on .2)
 
 loop-less : tie.Need-loop-less Inv-loop μ-loop
 loop-less c = let on = goes-on (c .before .before .before .before .before .before .before .before .before .before .before .before .before
-    .before .before .before .before .before .before .before .before .before .before .loop .last) (c .before .before .before .before .before
+    .before .before .before .before .before .before .before .before .loop .last) (c .before .before .before .before .before .before .before
+    .before .before .before .before .before .before .before .before .before .before .before .before .before .before .loop .blocks) (sym (c
     .before .before .before .before .before .before .before .before .before .before .before .before .before .before .before .before .before
-    .before .loop .blocks) (c .before .before .before .before .before .before .before .before .before .before .before .before .before
-    .before .before .before .before .before .before .if1 .taken) in omega (arith, on .2)
+    .before .before .before .goes-on .ensures) ∙ c .before .before .before .before .before .before .before .before .before .before .before
+    .before .before .before .before .before .before .before .before .if1 .taken) in omega (arith, on .2)
 
 loop-again : tie.Need-loop-again Inv-loop μ-loop
 loop-again c = let now = c .before .before .before .before .before .before .before .before .before .before .before .before .before .before
-    .before .before .before .before .before .before .before .before .before .loop in let on = goes-on (now .last) (now .blocks) (c .before
+    .before .before .before .before .before .before .before .loop in
+    let on = goes-on (c .before .before .before .before .before .before .before .before .before .before .before .before .before .before
+    .before .before .before .before .before .before .before .loop .last) (c .before .before .before .before .before .before .before .before
+    .before .before .before .before .before .before .before .before .before .before .before .before .before .loop .blocks) (sym (c .before
     .before .before .before .before .before .before .before .before .before .before .before .before .before .before .before .before .before
-    .before .if1 .taken) in (
-      λ m t h. next-block m t _ _ _ _ _ _ _ _ (now .inv .0 m t h) on (now .inv .7) _ _ _ _ _ _ _ (c .before .before
-          .before .before .before .before .before .before .before .before .before .count-block2 .ensures),
-      λ f. ready-again _ _ _ _ _ _ _ _ _ _
-          (now .inv .1 (on .0)) (c .before .before .totals2 .given) (c .before .before .before .before .before .before .before .before .words2
-          .given) f _ _ (c .before .before .before .before .before .before .before .before .before .before .before .count-block2 .ensures
-          .counted),
-      c .before .before .before .before .before .before .before .before .before .before .buffer2 .given ∙ now .inv .2,
-      c .before
-          .before .before .before .before .before .before .before .words2 .given ∙ now .inv .3,
-      c .before .before .before .before .before .before
-          .links2 .given ∙ now .inv .4,
-      c .before .before .before .before .presents2 .given ∙ now .inv .5,
-      c .before .before .totals2 .given ∙ now
-          .inv .6,
-      c .before .input2 .given ∙ now .inv .7,
+    .before .before .goes-on .ensures) ∙ c .before .before .before .before .before .before .before .before .before .before .before .before
+    .before .before .before .before .before .before .before .if1 .taken) in (
+      λ m t h. next-block m t _ _ _ _ _ _ _ _ (now .inv .0 m t h) on (now .inv .7) _ _ _ _ _ _ _ (c .before .before .before .before .before
+          .before .before .before .before .before .before .count-block2 .ensures),
+      λ f. ready-again _ _ _ _ _ _ _ _ _ _ (now .inv .1 (on .0)) (c
+          .before .before .totals2 .given) (c .before .before .before .before .before .before .before .before .words2 .given) f _ _ (c .before
+          .before .before .before .before .before .before .before .before .before .before .count-block2 .ensures .counted),
+      c .before .before
+          .before .before .before .before .before .before .before .before .buffer2 .given ∙ now .inv .2,
+      c .before .before .before .before .before
+          .before .before .before .words2 .given ∙ now .inv .3,
+      c .before .before .before .before .before .before .links2 .given ∙ now .inv .4,
+      c
+          .before .before .before .before .presents2 .given ∙ now .inv .5,
+      c .before .before .totals2 .given ∙ now .inv .6,
+      c .before .input2
+          .given ∙ now .inv .7,
       omega (arith, on .2),
     )
 
 same-length : tie.Need-same-length Inv-loop μ-loop
-same-length c = c .before .before .before .before .loop .inv .2 ∙ c .before .before .before .before .before .before .before .before .before
-    .before .before .before .before .before .before .buffer .given
+same-length c = c .before .before .loop .inv .2 ∙ c .before .before .before .before .before .before .before .before .before .before .before
+    .before .before .buffer .given
 
 same-length-2 : tie.Need-same-length-2 Inv-loop μ-loop
-same-length-2 c = c .before .before .before .before .loop .inv .3 ∙ c .before .before .before .before .before .before .before .before
-    .before .before .before .before .before .words .given
+same-length-2 c = c .before .before .loop .inv .3 ∙ c .before .before .before .before .before .before .before .before .before .before
+    .before .words .given
 
 same-length-3 : tie.Need-same-length-3 Inv-loop μ-loop
-same-length-3 c = c .before .before .before .before .loop .inv .4 ∙ c .before .before .before .before .before .before .before .before
-    .before .before .before .links .given
+same-length-3 c = c .before .before .loop .inv .4 ∙ c .before .before .before .before .before .before .before .before .before .links .given
 
 same-length-4 : tie.Need-same-length-4 Inv-loop μ-loop
-same-length-4 c = c .before .before .before .before .loop .inv .5 ∙ c .before .before .before .before .before .before .before .before
-    .before .presents .given
+same-length-4 c = c .before .before .loop .inv .5 ∙ c .before .before .before .before .before .before .before .presents .given
 
 same-length-5 : tie.Need-same-length-5 Inv-loop μ-loop
-same-length-5 c = c .before .before .before .before .loop .inv .6 ∙ c .before .before .before .before .before .before .before .totals .given
+same-length-5 c = c .before .before .loop .inv .6 ∙ c .before .before .before .before .before .totals .given
 
 same-length-6 : tie.Need-same-length-6 Inv-loop μ-loop
-same-length-6 c = c .before .before .before .before .loop .inv .7 ∙ sym (c .before .before .before .before .before .before .before .before
-    .before .before .before .before .before .before .before .before .before .before .before .before .before .before .before .before .before
-    .before .before .before .pre .1)
+same-length-6 c = c .before .before .loop .inv .7 ∙ sym (c .before .before .before .before .before .before .before .before .before .before
+    .before .before .before .before .before .before .before .before .before .before .before .before .before .before .before .before .pre .1)
 
 returns : tie.Need-returns Inv-loop μ-loop
-returns c = last-block _ _ _ _ _ _ _ _ _ _ (c .before .before .before .before .loop .inv .0 _ _ (first-block _ _ _ _ _ _ _ _ _ (c .before
-    .before .before .before .before .before .before .before .before .before .before .before .before .before .before .before .count-block
-    .ensures))) (c .before .before .before .before .loop .inv .8) (c .if1 .left)
+returns c = last-block _ _ _ _ _ _ _ _ _ _ (c .before .before .loop .inv .0 _ _ (first-block _ _ _ _ _ _ _ _ _ (c .before .before .before
+    .before .before .before .before .before .before .before .before .before .before .before .count-block .ensures))) (c .before .before
+    .loop .inv .8) (sym (c .before .goes-on .ensures) ∙ c .if1 .left)
 
 pub replay-spec : {M : Type 1} → statement M
 replay-spec =
@@ -131,6 +137,7 @@ replay-spec =
     μ-loop
     count-block-requires
     loop-holds
+    goes-on-requires
     count-block-requires-2
     add-blocks
     loop-less

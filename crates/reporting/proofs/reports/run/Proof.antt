@@ -45,7 +45,8 @@ loop-again c = let v = c .before .before .before .before .before .before .before
       inr (next-file _ _ _ _ _ _ _ (v .1) (goes-on (c .before .before .before .before .before .before .before .before .before
           .before .before .before .before .before .loop .written) (c .before .before .before .before .before .before .before .before .before
           .before .before .before .before .before .loop .next) _ (c .before .before .before .before .before .before .before .before .before
-          .before .before .before .before .loop-test .taken)) refl (c .before .before .before .before .before .before .before .before .write-lines
+          .before .before .before .before .loop-test .taken)) refl (c .before .before .before .before .before .before .before .before
+          .write-lines
           .ensures)),
       omega (arith, v .1),
       c .before .before .before .before .before .before .before .path .given ∙ v .2,
