@@ -43,7 +43,7 @@ use Rattle.store.specs.Machine.{Machine}
 use Rattle.mmu.specs.ServedAccess.{mayBeServed, servedRefusal, outcomeOf, triedReply, missed, loadedAt, registersLoaded, bufferLoaded}
 use Rattle.mmu.specs.ServedAccess.{afterMiss, bufferAfterMiss, firstTry, walkFor, accessReply, accessBuffer, servedReply}
 use Rattle.mmu.specs.ServedAccess.{servedBuffer}
-use Rattle.mmu.specs.ServedAccess.{MissGives, AccessGives, ServedAccessGives}
+use Rattle.mmu.specs.ServedAccess.{RetryGives, AccessGives, ServedAccessGives}
 
 -- the code tests that a register is 0
 pub served-test : (r : Registers) → (eqb (r .test) 0 && not (eqb (r .context) 63)) ≡ mayBeServed r
@@ -74,15 +74,7 @@ module _ (t : Translation) (loads : ℕ) (reply : Reply) where
   unfolding triedReply outcomeOf
   tried-none h q = q ∙ sym (rw h)
 
--- the two ways after a miss: no leaf, or one that is loaded
-pub miss-final : (found : Walk) (r : Registers) (b : Buffer) (a : Access) (value : ℕ) (reply : Reply)
-    → OneOf (1 ∷ 2 ∷ []) (tagOf the-type found) → value ≡ walkFault found → reply ≡ answered r (Fault value) 0
-    → MissGives found r b a reply b
-unfolding afterMiss bufferAfterMiss
-miss-final (Leaf f) r b a value reply k v q = absurd (⊎-elim (λ y. omega arith) (λ y. omega arith) k)
-miss-final (Absent s) r b a value reply k v q = record { reply-is = q ∙ rw v; buffer-is = refl }
-miss-final (Broken s) r b a value reply k v q = record { reply-is = q ∙ rw v; buffer-is = refl }
-
+-- the load of a leaf, and what it gives
 module _ (r : Registers) (b after : Buffer) (a : Access) (vpn e slot : ℕ) (selected : Registers)
     (g : LoadGives b after (r .context) vpn (a .draw) e slot) (sq : selected ≡ put r 6 slot) where
   pub loaded-accepted : Accepted r b a → Accepted selected after a
@@ -95,13 +87,13 @@ module _ (r : Registers) (b after : Buffer) (a : Access) (vpn e slot : ℕ) (sel
         draw-fits = p .draw-fits;
       }
 
-  pub miss-loaded : (found : Walk) (leaf : Found) (second : Translation) (reply : Reply) → found ≡ Leaf leaf → vpn ≡ vpnOf (a .address)
+  pub leaf-loaded : (leaf : Found) (second : Translation) (reply : Reply) → vpn ≡ vpnOf (a .address)
       → e ≡ pack (leafEntry (r .context) vpn leaf) → second ≡ translate selected after a → reply ≡ triedReply second 1
-      → MissGives found r b a reply after
-  unfolding afterMiss bufferAfterMiss registersLoaded loadedAt bufferLoaded
-  miss-loaded found leaf second reply fq vq eq tq q = record {
-    reply-is = q ∙ rw (tq, sq, g .slot-is, buffer-is, vq) (sym (rw fq));
-    buffer-is = buffer-is ∙ rw vq (sym (rw fq));
+      → RetryGives leaf r b a reply after
+  unfolding registersLoaded loadedAt bufferLoaded
+  leaf-loaded leaf second reply vq eq tq q = record {
+    reply-is = q ∙ rw (tq, sq, g .slot-is, buffer-is, vq);
+    buffer-is = buffer-is ∙ rw vq;
   }
     where
       buffer-is : after ≡ loadedBuffer b (r .context) vpn (a .draw) (pack (leafEntry (r .context) vpn leaf))
@@ -116,24 +108,50 @@ first-accepted r b a first q p = record {
   draw-fits = p .draw-fits;
 }
 
--- the two ways through an accepted access: the first try stands, or it missed
-module _ (m : Machine) (a : Access) (first : Translation) (fq : first ≡ translate (m .registers) (m .buffer) a) where
-  pub serve-tried : (reply : Reply) → (first .value ≡ 8 → ⊥) → reply ≡ triedReply first 0 → AccessGives m a reply (m .buffer)
+-- what follows a miss gives, by what the walk found
+record MissGives (found : Walk) (r : Registers) (b : Buffer) (a : Access) (reply : Reply) (after : Buffer) : Type 0 where
+  reply-is : reply ≡ afterMiss found r b a
+  buffer-is : after ≡ bufferAfterMiss found r b a
+
+miss-final : (found : Walk) (r : Registers) (b : Buffer) (a : Access) (value : ℕ) (reply : Reply)
+    → OneOf (1 ∷ 2 ∷ []) (tagOf the-type found) → value ≡ walkFault found → reply ≡ answered r (Fault value) 0
+    → MissGives found r b a reply b
+unfolding afterMiss bufferAfterMiss
+miss-final (Leaf f) r b a value reply k v q = absurd (⊎-elim (λ y. omega arith) (λ y. omega arith) k)
+miss-final (Absent s) r b a value reply k v q = record { reply-is = q ∙ rw v; buffer-is = refl }
+miss-final (Broken s) r b a value reply k v q = record { reply-is = q ∙ rw v; buffer-is = refl }
+
+miss-loaded : (found : Walk) (leaf : Found) (r : Registers) (b : Buffer) (a : Access) (reply : Reply) (after : Buffer)
+    → found ≡ Leaf leaf → RetryGives leaf r b a reply after → MissGives found r b a reply after
+unfolding afterMiss bufferAfterMiss
+miss-loaded found leaf r b a reply after e g = record { reply-is = g .reply-is ∙ sym (rw e); buffer-is = g .buffer-is ∙ sym (rw e) }
+
+-- the three ways through an accepted access: the first try stands, or it missed and the walk gave no leaf, or one
+module _ (m : Machine) (a : Access) (first : Translation) (fq : first ≡ translate (m .registers) (m .buffer) a) (reply : Reply) where
+  pub serve-tried : (first .value ≡ 8 → ⊥) → reply ≡ triedReply first 0 → AccessGives m a reply (m .buffer)
   unfolding accessReply accessBuffer firstTry missed
-  serve-tried reply h q =
+  serve-tried h q =
       let none = ne-eqb (first .value) 8 h in
       record { reply-is = q ∙ sym (rw (← fq, none)); buffer-is = sym (rw (← fq, none)) }
 
-  pub serve-missed : (vpn : ℕ) (found : Walk) (reply : Reply) (after : Buffer) → first .value ≡ 8 → vpn ≡ vpnOf (a .address)
-      → found ≡ walkPage (m .words) (m .registers .context) vpn → MissGives found (first .registers) (m .buffer) a reply after
-      → AccessGives m a reply after
-  unfolding accessReply accessBuffer firstTry missed walkFor
-  serve-missed vpn found reply after h vq wq g =
-      let one = eq-eqb (first .value) 8 h in
-      record {
-        reply-is = g .reply-is ∙ rw (wq, vq) (sym (rw (← fq, one)));
-        buffer-is = g .buffer-is ∙ rw (wq, vq) (sym (rw (← fq, one)));
-      }
+  module _ (vpn : ℕ) (found : Walk) (h : first .value ≡ 8) (vq : vpn ≡ vpnOf (a .address))
+      (wq : found ≡ walkPage (m .words) (m .registers .context) vpn) where
+    serve-missed : (after : Buffer) → MissGives found (first .registers) (m .buffer) a reply after → AccessGives m a reply after
+    unfolding accessReply accessBuffer firstTry missed walkFor
+    serve-missed after g =
+        let one = eq-eqb (first .value) 8 h in
+        record {
+          reply-is = g .reply-is ∙ rw (wq, vq) (sym (rw (← fq, one)));
+          buffer-is = g .buffer-is ∙ rw (wq, vq) (sym (rw (← fq, one)));
+        }
+
+    pub serve-final : (value : ℕ) → OneOf (1 ∷ 2 ∷ []) (tagOf the-type found) → value ≡ walkFault found
+        → reply ≡ answered (first .registers) (Fault value) 0 → AccessGives m a reply (m .buffer)
+    serve-final value k v q = serve-missed (m .buffer) (miss-final found (first .registers) (m .buffer) a value reply k v q)
+
+    pub serve-loaded : (leaf : Found) (after : Buffer) → found ≡ Leaf leaf → RetryGives leaf (first .registers) (m .buffer) a reply after
+        → AccessGives m a reply after
+    serve-loaded leaf after e g = serve-missed after (miss-loaded found leaf (first .registers) (m .buffer) a reply after e g)
 
 -- an access that is served is not refused
 tried-answers : (t : Translation) (loads : ℕ) → refusalOf ((triedReply t loads) .outcome) ≡ 0

@@ -2,7 +2,6 @@
 use Prim.Native.Nat.{ℕ}
 use mathlib.Core.Path.{_≡_}
 use mathlib.Core.Bool.{Bool, cond, not, _&&_}
-use mathlib.Core.List.{List}
 use lib.Dec.{eqb}
 use Rattle.entry.specs.Address.{vpnOf}
 use Rattle.entry.specs.Entry.{pack}
@@ -71,10 +70,18 @@ unfoldable pub bufferLoaded : Registers → Buffer → Access → Found → Buff
 bufferLoaded r b a f =
     loadedBuffer b (r .context) (vpnOf (a .address)) (a .draw) (pack (leafEntry (r .context) (vpnOf (a .address)) f))
 
--- After a miss that left the registers r, by what the walk found: "if a leaf is found, load it, then raw access again with the same draw".
--- Absent and broken are final, with the walk's own fault value.
+-- "if a leaf is found, load it, then raw access again with the same draw": so after a miss that left the registers r
+abbrev pub loadedReply : Found → Registers → Buffer → Access → Reply
+loadedReply f r b a = triedReply (translate (registersLoaded r b a) (bufferLoaded r b a f) a) 1
+
+-- what the load of a leaf and the second try give
+pub record RetryGives (f : Found) (r : Registers) (b : Buffer) (a : Access) (reply : Reply) (buffer-after : Buffer) : Type 0 where
+  pub reply-is : reply ≡ loadedReply f r b a
+  pub buffer-is : buffer-after ≡ bufferLoaded r b a f
+
+-- After a miss by what the walk found. Absent and broken are final, with the walk's own fault value.
 unfoldable pub afterMiss : Walk → Registers → Buffer → Access → Reply
-afterMiss (Leaf f) r b a = triedReply (translate (registersLoaded r b a) (bufferLoaded r b a f) a) 1
+afterMiss (Leaf f) r b a = loadedReply f r b a
 afterMiss (Absent s) r b a = answered r (Fault (walkFault (Absent s))) 0
 afterMiss (Broken s) r b a = answered r (Fault (walkFault (Broken s))) 0
 
@@ -82,11 +89,6 @@ unfoldable pub bufferAfterMiss : Walk → Registers → Buffer → Access → Bu
 bufferAfterMiss (Leaf f) r b a = bufferLoaded r b a f
 bufferAfterMiss (Absent s) r b a = b
 bufferAfterMiss (Broken s) r b a = b
-
--- what the part after a miss gives
-pub record MissGives (found : Walk) (r : Registers) (b : Buffer) (a : Access) (reply : Reply) (buffer-after : Buffer) : Type 0 where
-  pub reply-is : reply ≡ afterMiss found r b a
-  pub buffer-is : buffer-after ≡ bufferAfterMiss found r b a
 
 -- the first try, and the walk that follows a miss
 unfoldable pub firstTry : Machine → Access → Translation

@@ -6,10 +6,11 @@ ghost use Rattle.registers.specs.Refusals.{drawFits};
 ghost use Rattle.slots.specs.Buffer.{Buffer};
 ghost use Rattle.access.specs.Translation.{Accepted};
 ghost use Rattle.mmu.specs.RawAccess.{RawAccessGives, rawRefusal};
-ghost use Rattle.mmu.specs.ServedAccess.{AccessGives, MissGives, ServedAccessGives, mayBeServed, servedRefusal, serviceRefusal};
+ghost use Rattle.mmu.specs.ServedAccess.{AccessGives, RetryGives, ServedAccessGives, mayBeServed, servedRefusal, serviceRefusal};
 ghost use Rattle.mmu.specs.ServedAccess.{triedReply};
 use access::Physical;
 use access::Translation;
+use page_table::Found;
 use page_table::Walk;
 use registers::Access;
 use registers::Outcome;
@@ -124,15 +125,11 @@ pub fn tried_reply(t: Translation, loads: u32) -> Reply
     }
 }
 
-// After a miss: a leaf is loaded and the access tried again, anything else is final.
-pub fn after_miss(found: Walk, r: Registers, buffer: &mut [u64], a: Access) -> Reply
+// After a miss whose walk found a leaf: loads it and tries again.
+pub fn load_and_retry(leaf: Found, r: Registers, buffer: &mut [u64], a: Access) -> Reply
     requires { ⌜ Accepted r (Buffer.Wide (now buffer)) a ⌝ }
-    ensures { λ s. ⌜ MissGives found r (Buffer.Wide (now (buffer .entry))) a s (Buffer.Wide (now (buffer .exit))) ⌝ }
+    ensures { λ s. ⌜ RetryGives leaf r (Buffer.Wide (now (buffer .entry))) a s (Buffer.Wide (now (buffer .exit))) ⌝ }
 {
-    let Walk::Leaf(leaf) = found else {
-        let value = page_table::walk_fault(found);
-        return registers::answered(r, Outcome::Fault(value), 0);
-    };
     let vpn = entry::vpn_of(a.address);
     let e = store::leaf_entry(r.context, vpn, leaf);
     let slot = tlb::load(buffer, r.context, vpn, a.draw, e);
@@ -141,7 +138,7 @@ pub fn after_miss(found: Walk, r: Registers, buffer: &mut [u64], a: Access) -> R
     tried_reply(second, 1)
 }
 
-// Tries; a miss is followed by a walk.
+// Tries; a miss is followed by a walk, which gives a leaf or the fault.
 fn serve(r: Registers, buffer: &mut [u64], words: &[u32], a: Access) -> Reply
     requires { ⌜ Accepted r (Buffer.Wide (now buffer)) a × (64 ≤ length (now words)) ⌝ }
     ensures { λ s. ⌜ AccessGives
@@ -155,7 +152,11 @@ fn serve(r: Registers, buffer: &mut [u64], words: &[u32], a: Access) -> Reply
     let vpn = entry::vpn_of(a.address);
     let found = page_table::walk_page(words, r.context, vpn);
     let after = first.registers;
-    after_miss(found, after, buffer, a)
+    let Walk::Leaf(leaf) = found else {
+        let value = page_table::walk_fault(found);
+        return registers::answered(after, Outcome::Fault(value), 0);
+    };
+    load_and_retry(leaf, after, buffer, a)
 }
 
 // One served access. The outcome is the address or a fault; the loads are the entries that were loaded, 0 or 1.

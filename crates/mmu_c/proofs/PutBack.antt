@@ -20,14 +20,12 @@ use Rattle.entry.proofs.Fields.{slot-lt}
 use Rattle.registers.specs.declared.Access.{Access}
 use Rattle.registers.specs.declared.Registers.{Registers}
 use Rattle.page_table.specs.declared.Found.{Found}
-use Rattle.page_table.specs.declared.Walk.{Walk}
-use Rattle.page_table.specs.declared.Walk.the-variants.{Leaf, Absent, Broken}
 use Rattle.slots.specs.Buffer.{Buffer, withSlot}
 use Rattle.slots.specs.Buffer.Buffer.{Wide}
 use Rattle.tlb.specs.Load.{setMatches, loadSlot, loadedBuffer}
 use Rattle.tlb.proofs.Locations.{load-slot-same}
 use Rattle.store.specs.Leaf.{leafEntry}
-use Rattle.mmu.specs.ServedAccess.{bufferLoaded, bufferAfterMiss}
+use Rattle.mmu.specs.ServedAccess.{bufferLoaded}
 use Rattle.mmu_c.specs.Runs.{bufferOf, bufferBytes}
 use Rattle.mmu_c.specs.Location.{Fetched, putBack}
 use Rattle.mmu_c.proofs.Locations.{slot-inside, fetched-same}
@@ -136,10 +134,6 @@ module _ (bytes : List ℕ) (are : AreBytes bytes) (room : length bytes ≡ 512)
 -- runs that agree in the location's slots
 module _ (old run : List ℕ) (vpn : ℕ) (long : length old ≡ 64) (long′ : length run ≡ 64)
     (same : (j : ℕ) → j < 4 → getD run (slotOf j vpn) 0 ≡ getD old (slotOf j vpn) 0) where
-  -- nothing was stored in the run
-  into-none : into run vpn 4 old ≡ old
-  into-none = into-is run old vpn long old long (λ j l. sym (same j l)) (λ i h. refl)
-
   -- one number was stored in the run, at a slot of the location
   into-one : (m slot x : ℕ) → m < 4 → slot ≡ slotOf m vpn → into (set run slot x) vpn 4 old ≡ set old slot x
   into-one m slot x k q =
@@ -161,7 +155,7 @@ module _ (old run : List ℕ) (vpn : ℕ) (long : length old ≡ 64) (long′ : 
 abbrev numbersOf : Buffer → List ℕ
 numbersOf (Wide numbers) = numbers
 
--- what follows a miss, on the run and on the bytes' buffer
+-- the load of a leaf, on the run and on the bytes' buffer
 module _ (r : Registers) (bytes run : List ℕ) (a : Access) (f : Fetched bytes run (vpnOf (a .address))) (room : length bytes ≡ 512)
     (l : a .draw < 4) where
   abbrev vpn : ℕ
@@ -185,16 +179,7 @@ module _ (r : Registers) (bytes run : List ℕ) (a : Access) (f : Fetched bytes 
       ∙ ap (λ (k : ℕ). set old k (pack (leafEntry (r .context) vpn g) % 2 ^ 44))
       (load-slot-same (Wide run) (bufferOf bytes) vpn (fetched-same bytes run vpn f) (r .context) (a .draw)))
 
-  missed : (found : Walk) (after : List ℕ) → Wide after ≡ bufferAfterMiss found r (Wide run) a
-      → Wide (into after vpn 4 old) ≡ bufferAfterMiss found r (bufferOf bytes) a
-  unfolding bufferAfterMiss bufferOf
-  missed (Leaf g) after q = loaded g after q
-  missed (Absent s) after q =
-      ap Wide (ap (λ (ns : List ℕ). into ns vpn 4 old) (ap numbersOf q) ∙ into-none old run vpn (decoded-length 8 bytes 64) (f .long) same)
-  missed (Broken s) after q =
-      ap Wide (ap (λ (ns : List ℕ). into ns vpn 4 old) (ap numbersOf q) ∙ into-none old run vpn (decoded-length 8 bytes 64) (f .long) same)
-
-  pub put-back : (found : Walk) (after : List ℕ) → Wide after ≡ bufferAfterMiss found r (Wide run) a
-      → putBack after vpn 4 bytes ≡ bufferBytes (bufferAfterMiss found r (bufferOf bytes) a)
+  pub put-back : (g : Found) (after : List ℕ) → Wide after ≡ bufferLoaded r (Wide run) a g
+      → putBack after vpn 4 bytes ≡ bufferBytes (bufferLoaded r (bufferOf bytes) a g)
   unfolding bufferBytes
-  put-back found after q = back-into bytes (f .are-bytes) room after vpn 4 (omega arith) ∙ ap bufferBytes (missed found after q)
+  put-back g after q = back-into bytes (f .are-bytes) room after vpn 4 (omega arith) ∙ ap bufferBytes (loaded g after q)

@@ -2,23 +2,29 @@
 use Prim.Native.Nat.{ℕ, _+_, _≤_, _<_}
 use mathlib.Core.Path.{_≡_, refl, sym, ap, _∙_, subst}
 use mathlib.Core.Bool.{Bool, true, false, not, cond}
-use mathlib.Core.List.{List}
+use mathlib.Core.List.{List, [], _∷_}
 use native.Mathlib.Omega.{arith}
 use lib.ListN.{length}
 use borrow.Author.Tests.{lt-ltb, not-true}
+use types.Run.{OneOf}
+use denote.Enum.Declared.{tagOf}
 use Rattle.wire.specs.Wire.{AreBytes}
 use Rattle.entry.specs.Address.{vpnOf}
 use Rattle.registers.specs.Fields.{registersFit}
 use Rattle.registers.specs.Refusals.{refuseUnless, drawFits}
 use Rattle.registers.proofs.RefusalLaws.{passed, when-accepted, when-refused}
+use Rattle.registers.specs.Replies.{answered}
 use Rattle.registers.specs.declared.Access.{Access}
+use Rattle.registers.specs.declared.Outcome.the-variants.{Fault}
 use Rattle.registers.specs.declared.Registers.{Registers}
 use Rattle.registers.specs.declared.Reply.{Reply}
 use Rattle.page_table.specs.Walk.{walkPage}
 use Rattle.page_table.specs.Faults.{stopPlace, walkFault}
 use Rattle.page_table.proofs.FaultLaws.{place-lt}
+use Rattle.page_table.specs.declared.Found.{Found}
 use Rattle.page_table.specs.declared.Walk.{Walk}
 use Rattle.page_table.specs.declared.Walk.the-variants.{Leaf, Absent, Broken}
+use Rattle.page_table.proofs.Walk.{the-type}
 use Rattle.slots.specs.Buffer.{Buffer}
 use Rattle.slots.specs.Buffer.Buffer.{Wide}
 use Rattle.access.specs.Translation.{Accepted, noException, translate}
@@ -31,9 +37,9 @@ use Rattle.access.proofs.Values.{translate-value-le}
 use Rattle.store.specs.Machine.{Machine}
 use Rattle.table_bytes.specs.TableBytes.{wordsOf}
 use Rattle.mmu.specs.ServedAccess.{mayBeServed, serviceRefusal, outcomeOf, triedReply, missed, afterMiss, firstTry, walkFor, accessReply}
-use Rattle.mmu.specs.ServedAccess.{accessBuffer, MissGives}
-use Rattle.mmu.proofs.ServedLaws.{first-accepted, serve-tried, serve-missed}
-use Rattle.mmu.proofs.Locations.{after-miss-same}
+use Rattle.mmu.specs.ServedAccess.{accessBuffer, RetryGives, AccessGives}
+use Rattle.mmu.proofs.ServedLaws.{first-accepted, serve-tried, serve-final, serve-loaded}
+use Rattle.mmu.proofs.Locations.{loaded-reply-same}
 use Rattle.mmu_c.specs.Runs.{registersOf, registerBytes, bufferOf, bufferBytes, registersTaken, bufferTaken, tablesTaken, machineOf}
 use Rattle.mmu_c.specs.Answers.{refusalAnswer, rawAnswer, translationAnswer, outcomeAnswer, replyAnswer, outcomeFits}
 use Rattle.mmu_c.specs.Location.{Fetched, putBack}
@@ -48,29 +54,40 @@ use Rattle.mmu_c.proofs.PutBack.{bytes-back, put-back}
 abbrev pub machine : Registers → (buffer tables : List ℕ) → Machine
 machine r buffer tables = record { registers = r; buffer = bufferOf buffer; words = wordsOf tables }
 
--- the two ways through an accepted access: the first try stands, or it missed
+-- the three ways through an accepted access: the first try stands, or it missed and the walk gave no leaf, or one
 module _ (r : Registers) (buffer tables run : List ℕ) (a : Access) (first : Translation) (fq : first ≡ translate r (bufferOf buffer) a)
     (f : Fetched buffer run (vpnOf (a .address))) (room : length buffer ≡ 512) where
-  pub stands : (reply : Reply) → (first .value ≡ 8 → ⊥) → reply ≡ triedReply first 0
+  -- the bytes are left alone where the buffer is
+  same-bytes : (reply : Reply) → AccessGives (machine r buffer tables) a reply (bufferOf buffer)
       → AccessGivesBytes (machine r buffer tables) a reply buffer
-  stands reply h q =
-      let g = serve-tried (machine r buffer tables) a first fq reply h q in
+  same-bytes reply g =
       record { reply-is = g .reply-is; buffer-is = sym (bytes-back buffer (f .are-bytes) room) ∙ ap bufferBytes (g .buffer-is) }
 
-  module _ (p : Accepted r (bufferOf buffer) a) where
-    pub miss-accepted : Accepted (first .registers) (Wide run) a
-    miss-accepted =
-        let q = first-accepted r (bufferOf buffer) a first fq p in
-        record { registers-fit = q .registers-fit; buffer-fits = run-fits run (f .long); draw-fits = q .draw-fits }
+  pub stands : (reply : Reply) → (first .value ≡ 8 → ⊥) → reply ≡ triedReply first 0
+      → AccessGivesBytes (machine r buffer tables) a reply buffer
+  stands reply h q = same-bytes reply (serve-tried (machine r buffer tables) a first fq reply h q)
 
-    pub follows : (vpn : ℕ) (found : Walk) (reply : Reply) (run-after after : List ℕ) → first .value ≡ 8 → vpn ≡ vpnOf (a .address)
-        → found ≡ walkPage (wordsOf tables) (r .context) vpn → MissGives found (first .registers) (Wide run) a reply (Wide run-after)
-        → after ≡ putBack run-after vpn 4 buffer → AccessGivesBytes (machine r buffer tables) a reply after
-    follows vpn found reply run-after after h vq wq g aq =
+  pub miss-accepted : Accepted r (bufferOf buffer) a → Accepted (first .registers) (Wide run) a
+  miss-accepted p =
+      let q = first-accepted r (bufferOf buffer) a first fq p in
+      record { registers-fit = q .registers-fit; buffer-fits = run-fits run (f .long); draw-fits = q .draw-fits }
+
+  module _ (reply : Reply) (vpn : ℕ) (found : Walk) (h : first .value ≡ 8) (vq : vpn ≡ vpnOf (a .address))
+      (wq : found ≡ walkPage (wordsOf tables) (r .context) vpn) where
+    pub final : (value : ℕ) → OneOf (1 ∷ 2 ∷ []) (tagOf the-type found) → value ≡ walkFault found
+        → reply ≡ answered (first .registers) (Fault value) 0 → AccessGivesBytes (machine r buffer tables) a reply buffer
+    final value k v q = same-bytes reply (serve-final (machine r buffer tables) a first fq reply vpn found h vq wq value k v q)
+
+    pub loaded : Accepted r (bufferOf buffer) a → (leaf : Found) (run-after after : List ℕ) → found ≡ Leaf leaf
+        → RetryGives leaf (first .registers) (Wide run) a reply (Wide run-after) → after ≡ putBack run-after vpn 4 buffer
+        → AccessGivesBytes (machine r buffer tables) a reply after
+    loaded p leaf run-after after lq g aq =
         let q = first-accepted r (bufferOf buffer) a first fq p in
         let same = fetched-same buffer run (vpnOf (a .address)) f in
-        let whole = serve-missed (machine r buffer tables) a first fq vpn found reply _ h vq wq (record {
-          reply-is = g .reply-is ∙ after-miss-same (first .registers) (Wide run) (bufferOf buffer) a miss-accepted q same found;
+        let whole = serve-loaded (machine r buffer tables) a first fq reply vpn found h vq wq leaf _ lq (record {
+          reply-is =
+              g .reply-is
+              ∙ loaded-reply-same (first .registers) (Wide run) (bufferOf buffer) a (miss-accepted p) q same leaf;
           buffer-is = refl;
         }) in
         record {
@@ -78,7 +95,7 @@ module _ (r : Registers) (buffer tables run : List ℕ) (a : Access) (first : Tr
           buffer-is =
               aq
               ∙ ap (λ (v : ℕ). putBack run-after v 4 buffer) vq
-              ∙ put-back (first .registers) buffer run a f room (draw-lt (a .draw) (p .draw-fits)) found run-after (g .buffer-is)
+              ∙ put-back (first .registers) buffer run a f room (draw-lt (a .draw) (p .draw-fits)) leaf run-after (g .buffer-is)
               ∙ ap bufferBytes (whole .buffer-is);
         }
 

@@ -13,7 +13,9 @@ ghost use Rattle.mmu_c.specs.Location.{Fetched, putBack};
 ghost use Rattle.mmu_c.specs.Runs.{bufferOf, bufferTaken, tablesTaken};
 ghost use Rattle.mmu_c.specs.ServedAccess.{AccessGivesBytes, ServedAccessGives};
 use access::Translation;
+use page_table::Walk;
 use registers::Access;
+use registers::Outcome;
 use registers::Registers;
 use registers::Reply;
 
@@ -50,7 +52,7 @@ fn put_back(slots: &[u64], buffer: &mut [u8], vpn: u32)
     }
 }
 
-// An access whose first try had an exception. A miss is followed by a walk, and what it loads is put back.
+// An access whose first try had an exception. A miss is followed by a walk, which gives a leaf or the fault; what is loaded is put back.
 fn serve(
     r: Registers,
     first: Translation,
@@ -71,7 +73,11 @@ fn serve(
     let vpn = entry::vpn_of(a.address);
     let found = table_bytes::walk_page(tables, r.context, vpn);
     let after = first.registers;
-    let reply = mmu::after_miss(found, after, slots, a);
+    let Walk::Leaf(leaf) = found else {
+        let value = page_table::walk_fault(found);
+        return registers::answered(after, Outcome::Fault(value), 0);
+    };
+    let reply = mmu::load_and_retry(leaf, after, slots, a);
     put_back(slots, buffer, vpn);
     reply
 }

@@ -1,5 +1,5 @@
 -- The ways of the code through a walk, from what its tests and calls gave. Assumes nothing.
-use Prim.Native.Nat.{ℕ, zero, suc, _+_, _-_, _*_, _≤_, _<_}
+use Prim.Native.Nat.{ℕ, zero, suc, _+_, _-_, _*_, _/_, _^_, _≤_, _<_}
 use mathlib.Core.Path.{_≡_, refl, sym, ap, _∙_}
 use mathlib.Core.Bool.{Bool, true, false, not}
 use mathlib.Core.List.{List, [], _∷_}
@@ -16,7 +16,7 @@ use Rattle.page_table.specs.Words.{present, number}
 use Rattle.page_table.specs.Stretches.{stretchSize, indexIn, stretch}
 use Rattle.page_table.specs.Walk.{stopAt, indexBelow, walkTree, globalFirst, walkPage}
 use Rattle.page_table.specs.Reads.{leadsOn}
-use Rattle.page_table.specs.Ends.{endOf, decided}
+use Rattle.page_table.specs.Ends.{endOf, endAt, endRead, decided}
 use Rattle.page_table.specs.declared.Stop.{Stop}
 use Rattle.page_table.specs.declared.Walk.{Walk}
 use Rattle.page_table.specs.declared.Walk.the-variants.{Leaf, Absent, Broken}
@@ -32,6 +32,11 @@ room levels size n vpn i word page sized numbered placed =
     let bounds = size-bounds levels size sized in
     let below : i < size = rw (placed, sized) (index-lt levels vpn page) in
     omega (arith, below, bounds, stretch-room size n word (bounds .1) numbered)
+
+pub below-lt : (levels vpn i word : ℕ) → vpn < 524288 → i ≡ indexBelow vpn levels word → i < 67108864
+unfolding indexBelow
+below-lt levels vpn i word page e =
+    omega (arith, e, room levels (stretchSize levels) (number word) vpn (indexIn levels vpn) word page refl refl refl)
 
 pub index-in-lt : (levels vpn i : ℕ) → vpn < 524288 → i ≡ indexIn levels vpn → i < 1024
 index-in-lt levels vpn i page placed = omega (arith, placed, index-lt levels vpn page, size-le levels)
@@ -62,29 +67,37 @@ module _ (words : List ℕ) (vpn levels word : ℕ) (page : vpn < 524288) (on : 
   next-stands index e =
       rw (lent, e, placed) (stretch-at words (stretchSize levels) (number word) (indexIn levels vpn) (index-lt levels vpn page))
 
--- the three ways at a word: no level below, no way on, on to the next word
-module _ (words : List ℕ) (vpn levels word at : ℕ) where
-  pub end-leaf : levels ≡ 0 → 4 * at ≡ endOf words vpn levels at
-  unfolding endOf
-  end-leaf e = rw e
+-- a walk that ends at a word ends with that word
+read-here : (words : List ℕ) (vpn levels word at : ℕ) → levels ≤ 2 → word ≡ getD words at 0 → 4 * at + levels ≡ endOf words vpn levels at
+    → endAt levels word at ≡ endRead words vpn levels at
+unfolding endAt endRead
+read-here words vpn levels word at l stands ends =
+    let i : (4 * at + levels) / 4 ≡ at = omega arith in
+    rw (← ends, i, ← stands) (omega arith)
 
-  module _ (more : levels ≡ 0 → ⊥) (stands : word ≡ getD words at 0)
-      (b : Bool) (judged : b ≡ leadsOn (length words) (levels - 1) word) where
-    pub end-stuck : not b ≡ true → 4 * at + levels ≡ endOf words vpn levels at
+-- the three ways at a word: no level below, no way on, on to the next word
+module _ (words : List ℕ) (vpn levels word at : ℕ) (l : levels ≤ 2) (stands : word ≡ getD words at 0) (r : ℕ) where
+  pub end-leaf : levels ≡ 0 → r ≡ endAt levels word at → r ≡ endRead words vpn levels at
+  unfolding endOf
+  end-leaf e given = given ∙ read-here words vpn levels word at l stands (rw e (omega arith))
+
+  module _ (more : levels ≡ 0 → ⊥) (b : Bool) (judged : b ≡ leadsOn (length words) (levels - 1) word) where
+    pub end-stuck : not b ≡ true → r ≡ endAt levels word at → r ≡ endRead words vpn levels at
     unfolding endOf
-    end-stuck h = go levels more (sym judged ∙ not-true b h)
+    end-stuck h given = given ∙ read-here words vpn levels word at l stands (go levels more (sym judged ∙ not-true b h))
       where
-        go : (l : ℕ) → (l ≡ 0 → ⊥) → leadsOn (length words) (l - 1) word ≡ false → 4 * at + l ≡ endOf words vpn l at
+        go : (n : ℕ) → (n ≡ 0 → ⊥) → leadsOn (length words) (n - 1) word ≡ false → 4 * at + n ≡ endOf words vpn n at
         go zero ne off = absurd (ne refl)
         go (suc n) ne off = sym (rw (← stands, rw (sub-one (suc n)) at off))
 
-    pub end-on : not b ≡ false → (r next : ℕ) → next ≡ indexBelow vpn (levels - 1) word → r ≡ endOf words vpn (levels - 1) next
-        → r ≡ endOf words vpn levels at
-    unfolding endOf
-    end-on h r next e given = given ∙ go levels more (sym judged ∙ not-false b h) e
+    pub end-on : not b ≡ false → (next : ℕ) → next ≡ indexBelow vpn (levels - 1) word → r ≡ endRead words vpn (levels - 1) next
+        → r ≡ endRead words vpn levels at
+    unfolding endOf endRead
+    end-on h next e given =
+        given ∙ ap (λ (end : ℕ). 2 ^ 32 * getD words (end / 4) 0 + end) (go levels more (sym judged ∙ not-false b h) e)
       where
-        go : (l : ℕ) → (l ≡ 0 → ⊥) → leadsOn (length words) (l - 1) word ≡ true → next ≡ indexBelow vpn (l - 1) word
-            → endOf words vpn (l - 1) next ≡ endOf words vpn l at
+        go : (n : ℕ) → (n ≡ 0 → ⊥) → leadsOn (length words) (n - 1) word ≡ true → next ≡ indexBelow vpn (n - 1) word
+            → endOf words vpn (n - 1) next ≡ endOf words vpn n at
         go zero ne on e = absurd (ne refl)
         go (suc n) ne on e = rw e (rw (sub-one (suc n)) (sym (rw (← stands, rw (sub-one (suc n)) at on))))
 

@@ -1,37 +1,36 @@
--- Where a walk ends decides what it answers, and is a word of the run. Assumes nothing.
+-- The word at which a walk ends decides what it answers. Assumes nothing.
 use Prim.Native.Nat.{ℕ, zero, suc, _+_, _*_, _/_, _%_, _≤_, _<_}
 use mathlib.Core.Path.{_≡_, refl, sym, _∙_}
 use mathlib.Core.Bool.{Bool, true, false, cond, not, _&&_}
 use mathlib.Core.List.{List}
 use lib.ListN.{length, getD}
 use native.Mathlib.Omega.{arith}
-use Rattle.page_table.specs.Words.{present, number}
-use Rattle.page_table.specs.Stretches.{stretchSize, indexIn, broken}
+use Rattle.page_table.specs.Words.{present}
+use Rattle.page_table.specs.Stretches.{stretchSize, broken}
 use Rattle.page_table.specs.Walk.{leafAt, stopAt, indexBelow, descend, walkTree}
 use Rattle.page_table.specs.Reads.{leadsOn}
-use Rattle.page_table.specs.Ends.{endOf, decided, ending, EndFits}
+use Rattle.page_table.specs.Ends.{endOf, endRead, decided, ending}
 use Rattle.page_table.specs.declared.Walk.{Walk}
 use Rattle.page_table.specs.declared.Walk.the-variants.{Absent, Broken}
-use Rattle.page_table.proofs.Walks.{below-inside}
-use Rattle.page_table.proofs.Descents.{room}
+use Rattle.page_table.proofs.Descents.{below-lt}
 
-index-small : (vpn levels w : ℕ) → vpn < 524288 → indexBelow vpn levels w < 4294967296
-unfolding indexBelow
-index-small vpn levels w page = omega (arith, room levels (stretchSize levels) (number w) vpn (indexIn levels vpn) w page refl refl refl)
+-- what the word says at an end, four times its index and the levels
+unfoldable saysAt : (words : List ℕ) (global : Bool) (end : ℕ) → Walk
+saysAt words global end = decided global (end % 4) (getD words (end / 4) 0) (end / 4)
 
-ending-at : (words : List ℕ) (global : Bool) (levels at : ℕ) → levels ≤ 2
-    → (end : ℕ) → end ≡ 4 * at + levels → ending words global end ≡ decided global levels (getD words at 0) at
-unfolding ending
-ending-at words global levels at l end e =
+says-at : (words : List ℕ) (global : Bool) (levels at : ℕ) → levels ≤ 2
+    → (end : ℕ) → end ≡ 4 * at + levels → saysAt words global end ≡ decided global levels (getD words at 0) at
+unfolding saysAt
+says-at words global levels at l end e =
     let i : end / 4 ≡ at = omega arith in
     let n : end % 4 ≡ levels = omega arith in
     rw (i, n)
 
 -- the walk's answer is what the word says at which it ends
-pub descend-ends : (words : List ℕ) (vpn : ℕ) (global : Bool) (levels at : ℕ) → levels ≤ 2
-    → descend words vpn global levels at ≡ ending words global (endOf words vpn levels at)
+descend-ends : (words : List ℕ) (vpn : ℕ) (global : Bool) (levels at : ℕ) → levels ≤ 2
+    → descend words vpn global levels at ≡ saysAt words global (endOf words vpn levels at)
 unfolding descend endOf decided leadsOn leafAt
-descend-ends words vpn global zero at l = sym (ending-at words global 0 at l _ (omega arith))
+descend-ends words vpn global zero at l = sym (says-at words global 0 at l _ (omega arith))
 descend-ends words vpn global (suc n) at l =
     go (present w) (broken (length words) (stretchSize n) w) refl (descend-ends words vpn global n next (omega arith))
   where
@@ -42,20 +41,22 @@ descend-ends words vpn global (suc n) at l =
     next = indexBelow vpn n w
 
     go : (p q : Bool) → present w ≡ p
-        → descend words vpn global n next ≡ ending words global (endOf words vpn n next)
+        → descend words vpn global n next ≡ saysAt words global (endOf words vpn n next)
         → cond p (cond q (Broken (stopAt global (suc n))) (descend words vpn global n next)) (Absent (stopAt global (suc n)))
-        ≡ ending words global (cond (p && not q) (endOf words vpn n next) (4 * at + suc n))
-    go true true e ih = sym (ending-at words global (suc n) at l _ refl ∙ rw e)
+        ≡ saysAt words global (cond (p && not q) (endOf words vpn n next) (4 * at + suc n))
+    go true true e ih = sym (says-at words global (suc n) at l _ refl ∙ rw e)
     go true false e ih = ih
-    go false q e ih = sym (ending-at words global (suc n) at l _ refl ∙ rw e)
+    go false q e ih = sym (says-at words global (suc n) at l _ refl ∙ rw e)
 
--- a walk from a word of the run ends at a word of the run
-pub end-fits : (words : List ℕ) (vpn levels at : ℕ) → vpn < 524288 → levels ≤ 2 → at < length words → at < 4294967296
-    → EndFits words (endOf words vpn levels at)
-unfolding endOf leadsOn
-end-fits words vpn zero at page l inside fits = (omega arith, omega arith, omega arith)
-end-fits words vpn (suc n) at page l inside fits =
-    go (present w) (broken (length words) (stretchSize n) w) refl (end-fits words vpn n next page (omega arith))
+-- an end has at most two levels, and its index is below 2 ^ 26
+abbrev EndFits : (end : ℕ) → Type 0
+EndFits end = (end % 4 ≤ 2) × (end / 4 < 67108864)
+
+end-fits : (words : List ℕ) (vpn levels at : ℕ) → vpn < 524288 → levels ≤ 2 → at < 67108864 → EndFits (endOf words vpn levels at)
+unfolding endOf
+end-fits words vpn zero at page l fits = (omega arith, omega arith)
+end-fits words vpn (suc n) at page l fits =
+    go (leadsOn (length words) n w) (end-fits words vpn n next page (omega arith) (below-lt n vpn next w page refl))
   where
     w : ℕ
     w = getD words at 0
@@ -63,22 +64,30 @@ end-fits words vpn (suc n) at page l inside fits =
     next : ℕ
     next = indexBelow vpn n w
 
-    stops : EndFits words (4 * at + suc n)
-    stops = (omega arith, omega arith, omega arith)
+    go : (on : Bool) → EndFits (endOf words vpn n next) → EndFits (cond on (endOf words vpn n next) (4 * at + suc n))
+    go true below = below
+    go false below = (omega arith, omega arith)
 
-    go : (p q : Bool) → broken (length words) (stretchSize n) w ≡ q
-        → (next < length words → next < 4294967296 → EndFits words (endOf words vpn n next))
-        → EndFits words (cond (p && not q) (endOf words vpn n next) (4 * at + suc n))
-    go true true e ih = stops
-    go true false e ih = ih (below-inside (length words) vpn n w page e) (index-small vpn n w page)
-    go false q e ih = stops
+-- the end of a tree's walk with its word, as the code has it, gives the answer
+module _ (words : List ℕ) (vpn levels root end : ℕ) (page : vpn < 524288) (l : levels ≤ 2) (h : root ≤ 63)
+    (ends : end ≡ endRead words vpn levels root) where
+  fits : EndFits (endOf words vpn levels root)
+  fits = end-fits words vpn levels root page l (omega arith)
 
--- where a tree's walk ends and what it answers, as the code has it
-pub tree-fits : (words : List ℕ) (vpn levels root end : ℕ) → end ≡ endOf words vpn levels root → vpn < 524288 → levels ≤ 2
-    → root < length words → root < 4294967296 → EndFits words end
-tree-fits words vpn levels root end e page l inside fits = rw e (end-fits words vpn levels root page l inside fits)
+  pub tree-fits : end % 4 ≤ 2
+  unfolding endRead
+  tree-fits = omega (arith, ends, fits .0)
 
-pub tree-ends : (words : List ℕ) (vpn : ℕ) (global : Bool) (root end : ℕ) (r : Walk) → end ≡ endOf words vpn 2 root
-    → r ≡ ending words global end → r ≡ walkTree words vpn global root
+  tree-says : (global : Bool) → ending global end ≡ descend words vpn global levels root
+  unfolding ending endRead saysAt
+  tree-says global =
+      let e : ℕ = endOf words vpn levels root in
+      let below : end % 4 ≡ e % 4 = omega (arith, ends) in
+      let word : end / 4294967296 ≡ getD words (e / 4) 0 = omega (arith, ends, fits .1) in
+      let index : end % 4294967296 / 4 ≡ e / 4 = omega (arith, ends, fits .1) in
+      rw (below, word, index) (sym (descend-ends words vpn global levels root l))
+
+pub tree-ends : (words : List ℕ) (vpn root end : ℕ) → vpn < 524288 → root ≤ 63 → end ≡ endRead words vpn 2 root
+    → (global : Bool) (r : Walk) → r ≡ ending global end → r ≡ walkTree words vpn global root
 unfolding walkTree
-tree-ends words vpn global root end r e given = given ∙ rw e (sym (descend-ends words vpn global 2 root (omega arith)))
+tree-ends words vpn root end page h ends global r given = given ∙ tree-says words vpn 2 root end page (omega arith) h ends global

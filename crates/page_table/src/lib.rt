@@ -1,14 +1,14 @@
 // The walk of the page tables, a lent run of table words (course format).
 ghost use mathlib.Core.Bool.{true};
 ghost use mathlib.Core.Path.{_≡_};
-ghost use Prim.Native.Nat.{_≤_, _<_};
+ghost use Prim.Native.Nat.{_%_, _≤_, _<_};
 ghost use lib.ListN.{length, getD};
 ghost use Rattle.page_table.specs.Words.{present, number};
 ghost use Rattle.page_table.specs.Stretches as stretches;
 ghost use Rattle.page_table.specs.Stretches.{stretchSize, indexIn, broken, tablesFit};
 ghost use Rattle.page_table.specs.Walk.{indexBelow, walkTree, walkPage};
 ghost use Rattle.page_table.specs.Reads.{leadsOn};
-ghost use Rattle.page_table.specs.Ends.{endOf, decided, ending, EndFits};
+ghost use Rattle.page_table.specs.Ends.{endAt, endRead, decided, ending};
 ghost use Rattle.page_table.specs.Faults.{faultKind, stopPlace, walkFault};
 
 // A leaf: whether it stands in the global tree, its word, and the word's index in the run.
@@ -39,14 +39,14 @@ pub fn tables_fit(words: &[u32]) -> bool
 }
 
 // How many words a stretch has, by the levels left below it: a table none, a directory one.
-fn stretch_size(levels: u32) -> usize
+pub fn stretch_size(levels: u32) -> usize
     ensures { λ r. ⌜ r ≡ stretchSize levels ⌝ }
 {
     if levels == 0 { 1024 } else { 512 }
 }
 
 // The index of a page's word in such a stretch.
-fn index_in(levels: u32, vpn: u32) -> usize
+pub fn index_in(levels: u32, vpn: u32) -> usize
     ensures { λ r. ⌜ r ≡ indexIn levels vpn ⌝ }
 {
     if levels == 0 {
@@ -108,20 +108,28 @@ pub fn index_below(vpn: u32, levels: u32, word: u32) -> u32
     (size * number_of(word) + index_in(levels, vpn)) as u32
 }
 
-// The walk from a word, which stands at an index of the run and has so many levels below it: where it ends, as four times the index of
-// the word that decides, and the levels below that word. The run is lent behind a reference, which each level hands on as it is: that
-// and a number as the answer let the compiler make a loop of the calls.
+// A walk's end in one number: the word that decides, above 32 bits that are four times the word's index and the levels below it.
+pub fn end_at(levels: u32, word: u32, index: u32) -> u64
+    requires { ⌜ (levels ≤ 2) × (index < 67108864) ⌝ }
+    ensures { λ r. ⌜ r ≡ endAt levels word index ⌝ }
+{
+    word as u64 * 4294967296 + 4 * index as u64 + levels as u64
+}
+
+// The walk from a word, which stands at an index of the run and has so many levels below it: where it ends, and the word that it read
+// there. The run is lent behind a reference, which each level hands on as it is: that and a number as the answer let the compiler make
+// a loop of the calls.
 fn descend(words: &&[u32], vpn: u32, levels: u32, word: u32, index: u32) -> u64
-    requires { ⌜ (vpn < 524288) × (levels ≤ 2) × (word ≡ getD (now (now words)) index 0) ⌝ }
-    ensures { λ r. ⌜ r ≡ endOf (now (now (words .entry))) vpn levels index ⌝ }
+    requires { ⌜ (vpn < 524288) × (levels ≤ 2) × (index < 67108864) × (word ≡ getD (now (now words)) index 0) ⌝ }
+    ensures { λ r. ⌜ r ≡ endRead (now (now (words .entry))) vpn levels index ⌝ }
 {
     if levels == 0 {
-        return 4 * index as u64;
+        return end_at(levels, word, index);
     }
     let run = *words;
     let below = levels - 1;
     if !leads_on(run.len(), below, word) {
-        return 4 * index as u64 + levels as u64;
+        return end_at(levels, word, index);
     }
     let part = stretch(run, below, word);
     let at = index_in(below, vpn);
@@ -148,24 +156,25 @@ pub fn decided(global: bool, levels: u32, word: u32, index: u32) -> Walk
     Walk::Broken(Stop { global, level })
 }
 
-// The answer of a walk, by where it ended.
-fn ended(words: &[u32], global: bool, end: u64) -> Walk
-    requires { ⌜ EndFits (now words) end ⌝ }
-    ensures { λ r. ⌜ r ≡ ending (now (words .entry)) global end ⌝ }
+// The answer of a walk, by its end: what the word says that the walk read there.
+pub fn ended(global: bool, end: u64) -> Walk
+    requires { ⌜ end % 4 ≤ 2 ⌝ }
+    ensures { λ r. ⌜ r ≡ ending global end ⌝ }
 {
-    let index = (end / 4) as u32;
-    let word = words[index as usize];
-    decided(global, (end % 4) as u32, word, index)
+    let levels = (end % 4) as u32;
+    let word = (end >> 32) as u32;
+    let index = (end % 4294967296 / 4) as u32;
+    decided(global, levels, word, index)
 }
 
 // The walk of one tree, from its root.
 fn walk_tree(words: &[u32], vpn: u32, global: bool, root: u32) -> Walk
-    requires { ⌜ (vpn < 524288) × (root < length (now words)) ⌝ }
+    requires { ⌜ (vpn < 524288) × (root ≤ 63) × (64 ≤ length (now words)) ⌝ }
     ensures { λ r. ⌜ r ≡ walkTree (now (words .entry)) vpn global root ⌝ }
 {
     let word = words[root as usize];
     let end = descend(&words, vpn, 2, word, root);
-    ended(words, global, end)
+    ended(global, end)
 }
 
 // The walk of a page under an identification: the global tree first, and the own tree where that has nothing.

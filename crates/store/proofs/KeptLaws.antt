@@ -2,13 +2,13 @@
 use Prim.Native.Nat.{ℕ, _+_, _*_, _/_, _%_, _^_, _≤_, _<_}
 use mathlib.Core.Path.{_≡_, refl, sym, ap, _∙_, subst}
 use mathlib.Core.Logic.{⊎-elim}
-use mathlib.Core.Bool.{Bool, true, false, not}
+use mathlib.Core.Bool.{Bool, true, false, cond, not, _&&_, _||_}
 use mathlib.Core.List.{List, [], _∷_}
 use native.Mathlib.Numerals.{add-one}
 use native.Mathlib.Omega.{arith}
-use lib.Dec.{eqb}
+use lib.Dec.{eqb, leb}
 use lib.ListN.{length}
-use borrow.Author.Tests.{eq-eqb, ne-eqb, le-leb, lt-leb}
+use borrow.Author.Tests.{eq-eqb, ne-eqb, leb-true, le-leb, lt-leb}
 use types.Run.{OneOf}
 use denote.Enum.Declared.{tagOf}
 use Rattle.runs.specs.Bits.{bit}
@@ -33,7 +33,7 @@ use Rattle.slots.proofs.Slots.{fits-length, slot-lt}
 use Rattle.store.specs.Leaf.{leafEntry}
 use Rattle.store.specs.Sweep.{isEmpty, agreesWithLeaf, agreesWithTables, kept, keptAt, sweptSlot, sweptFirst, swept, emptied}
 use Rattle.store.specs.Sweep.{SweepGives, settled, goes}
-use Rattle.store.specs.Claims.{granted, PageOf, Paged, Claims}
+use Rattle.store.specs.Claims.{pageOf, claimOf, PageOf}
 use Rattle.store.specs.declared.Claim.{Claim}
 use Rattle.store.specs.declared.Claim.the-variants.{Nothing, Void, Of}
 use Rattle.store.specs.declared.Page.{Page}
@@ -84,57 +84,95 @@ module _ (e : ℕ) (page : Page) (p : PageOf (unpack e) page) where
       own : Entry
       own = leafEntry (page .id) (page .vpn) leaf
 
--- the three claims
+-- the three claims, as the code makes them
 module _ (slot e n : ℕ) (l : slot < 64) (h : e < 2 ^ 44) (nq : n ≡ emptyEntry (slot / 16)) where
   empty-test : eqb e n ≡ isEmpty slot (unpack e)
   unfolding isEmpty emptyEntry setOf
   empty-test = ap (eqb e) nq ∙ same-number e (emptyFields (slot / 16)) h (empty-fits (slot / 16) (omega arith))
 
-  pub claims-nothing : e ≡ n → Claims slot (unpack e) Nothing
-  unfolding granted Paged kept
-  claims-nothing q = record { same-verdict = λ words. sym (rw (sym empty-test ∙ eq-eqb e n q)); page-is = tt }
+  pub claims-nothing : e ≡ n → Nothing ≡ claimOf slot (unpack e)
+  unfolding claimOf
+  claims-nothing q = sym (rw (sym empty-test ∙ eq-eqb e n q))
 
   module _ (d : e ≡ n → ⊥) (id : ℕ) (iq : id ≡ (unpack e) .«page_id») where
-    by-tables : (words : List ℕ) → agreesWithTables words slot (unpack e) ≡ kept words slot (unpack e)
-    unfolding kept
-    by-tables words = sym (rw (sym empty-test ∙ ne-eqb e n d))
+    full : isEmpty slot (unpack e) ≡ false
+    full = sym empty-test ∙ ne-eqb e n d
 
-    pub claims-void : 62 < id → Claims slot (unpack e) Void
-    unfolding granted Paged agreesWithTables
-    claims-void m = record { same-verdict = λ words. sym (rw (← iq, lt-leb id 62 m)) ∙ by-tables words; page-is = tt }
+    pub claims-void : 62 < id → Void ≡ claimOf slot (unpack e)
+    unfolding claimOf
+    claims-void m = sym (rw (full, ← iq, lt-leb id 62 m))
 
     pub claims-page : id ≤ 62 → (vpn15 : ℕ) → vpn15 ≡ (unpack e) .vpn15
-        → Claims slot (unpack e) (Of (record { id = id; vpn = 16 * vpn15 + slot % 16 }))
-    unfolding granted Paged agreesWithTables vpnAt vpn15Of
-    claims-page m vpn15 vq = record {
-      same-verdict = λ words. sym (rw (← iq, ← vq, le-leb id 62 m)) ∙ by-tables words;
-      page-is = record {
-        id-is = iq;
-        id-known = m;
-        vpn15-is = sym vq ∙ (let k : vpn15 ≡ (16 * vpn15 + slot % 16) / 16 = omega arith in k);
-        vpn-fits = page-lt e slot vpn15 vq;
-      };
+        → Of (record { id = id; vpn = 16 * vpn15 + slot % 16 }) ≡ claimOf slot (unpack e)
+    unfolding claimOf pageOf vpnAt
+    claims-page m vpn15 vq = sym (rw (full, ← iq, ← vq, le-leb id 62 m))
+
+-- whether the tables give what is claimed
+unfoldable granted : (words : List ℕ) → Entry → Claim → Bool
+granted words f Nothing = true
+granted words f Void = false
+granted words f (Of page) = agreesWithLeaf (walkPage words (page .id) (page .vpn)) (page .vpn) f
+
+-- a slot is kept, whatever the tables are, if they give what its entry claims
+claim-judged : (words : List ℕ) (slot : ℕ) (f : Entry) → granted words f (claimOf slot f) ≡ kept words slot f
+unfolding granted claimOf pageOf kept agreesWithTables
+claim-judged words slot f = go (isEmpty slot f) (leb (f .«page_id») 62)
+  where
+    page : Page
+    page = pageOf slot f
+
+    go : (empty known : Bool)
+        → granted words f (cond empty Nothing (cond known (Of page) Void))
+        ≡ empty || (known && agreesWithLeaf (walkPage words (page .id) (page .vpn)) (page .vpn) f)
+    go true known = refl
+    go false true = refl
+    go false false = refl
+
+-- a page that an entry claims is the entry's
+unfoldable Paged : Entry → Claim → Type 0
+Paged f Nothing = Unit {0}
+Paged f Void = Unit {0}
+Paged f (Of page) = PageOf f page
+
+claim-paged : (slot e : ℕ) → Paged (unpack e) (claimOf slot (unpack e))
+unfolding Paged claimOf pageOf vpn15Of vpnAt
+claim-paged slot e = go (isEmpty slot f) (leb (f .«page_id») 62) refl
+  where
+    f : Entry
+    f = unpack e
+
+    go : (empty known : Bool) → leb (f .«page_id») 62 ≡ known → Paged f (cond empty Nothing (cond known (Of (pageOf slot f)) Void))
+    go true known q = tt
+    go false true q = record {
+      id-is = refl;
+      id-known = leb-true (f .«page_id») 62 q;
+      vpn15-is = let k : f .vpn15 ≡ (16 * f .vpn15 + slot % 16) / 16 = omega arith in k;
+      vpn-fits = page-lt e slot (f .vpn15) refl;
     }
+    go false false q = tt
 
 -- a slot by its entry's claim
-module _ (slot : ℕ) (f : Entry) (c : Claim) (q : Claims slot f c) where
-  pub kept-nothing : (words : List ℕ) → c ≡ Nothing → true ≡ kept words slot f
-  unfolding granted
-  kept-nothing words e = ap (granted words f) (sym e) ∙ q .same-verdict words
+module _ (slot e : ℕ) (c : Claim) (q : c ≡ claimOf slot (unpack e)) where
+  claim-is : (words : List ℕ) (d : Claim) → c ≡ d → granted words (unpack e) d ≡ kept words slot (unpack e)
+  claim-is words d p = ap (granted words (unpack e)) (sym p ∙ q) ∙ claim-judged words slot (unpack e)
 
-  pub kept-void : (words : List ℕ) → c ≡ Void → false ≡ kept words slot f
+  pub kept-nothing : (words : List ℕ) → c ≡ Nothing → true ≡ kept words slot (unpack e)
   unfolding granted
-  kept-void words e = ap (granted words f) (sym e) ∙ q .same-verdict words
+  kept-nothing words p = claim-is words Nothing p
 
-  module _ (page : Page) (e : c ≡ Of page) where
-    pub claimed-page : PageOf f page
+  pub kept-void : (words : List ℕ) → c ≡ Void → false ≡ kept words slot (unpack e)
+  unfolding granted
+  kept-void words p = claim-is words Void p
+
+  module _ (page : Page) (p : c ≡ Of page) where
+    pub claimed-page : PageOf (unpack e) page
     unfolding Paged
-    claimed-page = subst (Paged f) e (q .page-is)
+    claimed-page = subst (Paged (unpack e)) (sym q ∙ p) (claim-paged slot e)
 
     pub kept-page : (words : List ℕ) (found : Walk) (t : Bool) → found ≡ walkPage words (page .id) (page .vpn)
-        → t ≡ agreesWithLeaf found (page .vpn) f → t ≡ kept words slot f
+        → t ≡ agreesWithLeaf found (page .vpn) (unpack e) → t ≡ kept words slot (unpack e)
     unfolding granted
-    kept-page words found t wq tq = tq ∙ rw wq (ap (granted words f) (sym e) ∙ q .same-verdict words)
+    kept-page words found t wq tq = tq ∙ rw wq (claim-is words (Of page) p)
 
 pub entry-lt : (b : Buffer) (slot e : ℕ) → e ≡ slotAt b slot → e < 2 ^ 44
 entry-lt b slot e q = subst (λ (n : ℕ). n < 2 ^ 44) (sym q) (slot-lt b slot)

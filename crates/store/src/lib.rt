@@ -8,7 +8,7 @@ ghost use Rattle.entry.specs.Entry.{pack, unpack};
 ghost use Rattle.slots.specs.Buffer.{Buffer, bufferFits};
 ghost use Rattle.store.specs.Leaf.{leafEntry};
 ghost use Rattle.store.specs.Sweep.{SweepGives, agreesWithLeaf, goes, kept, settled};
-ghost use Rattle.store.specs.Claims.{Claims, PageOf};
+ghost use Rattle.store.specs.Claims.{PageOf, claimOf};
 ghost use Rattle.store.specs.Rewrite.{RewriteGives};
 ghost use Rattle.store.specs.TableStore.{TableStoreGives, storeRefusal};
 use entry::Entry;
@@ -50,7 +50,7 @@ pub fn leaf_entry(id: u32, vpn: u32, found: Found) -> u64
 // What the entry of a slot claims. Only the 44 bits are judged.
 pub fn claim_of(slot: u32, e: u64) -> Claim
     requires { ⌜ (slot < 64) × (e < 2 ^ 44) ⌝ }
-    ensures { λ r. ⌜ Claims slot (unpack e) r ⌝ }
+    ensures { λ r. ⌜ r ≡ claimOf slot (unpack e) ⌝ }
 {
     if e == entry::empty_entry(slot / 16) {
         return Claim::Nothing;

@@ -1,47 +1,59 @@
--- A walk on bytes goes and ends as the walk on the words that the bytes hold. Assumes nothing.
-use Prim.Native.Nat.{ℕ, _+_, _-_, _*_, _/_, _%_, _≤_, _<_}
-use mathlib.Core.Path.{_≡_, sym, ap, _∙_}
-use mathlib.Core.Bool.{Bool, true, false, not}
+-- A stretch of the bytes has the words of the stretch of the words that the bytes hold. Assumes nothing.
+use Prim.Native.Nat.{ℕ, zero, suc, _+_, _*_, _/_, _≤_, _<_}
+use mathlib.Core.Path.{_≡_, refl, ap, _∙_}
+use mathlib.Core.Bool.{Bool, true}
 use mathlib.Core.List.{List}
+use native.Mathlib.Nat.{mul-assoc}
 use native.Mathlib.Omega.{arith}
-use lib.ListN.{length}
-use borrow.Author.Tests.{not-false}
-use Rattle.wire.specs.Wire.{elementAt}
-use Rattle.page_table.specs.Ends.{endOf, decided, ending}
+use lib.ListN.{length, getD}
+use Rattle.wire.specs.Wire.{numberAt, elementAt}
+use Rattle.page_table.specs.Words.{number}
+use Rattle.page_table.specs.Stretches.{stretchSize, indexIn, stretch}
 use Rattle.page_table.specs.Reads.{leadsOn}
-use Rattle.page_table.specs.Walk.{indexBelow, walkTree}
-use Rattle.page_table.specs.declared.Walk.{Walk}
-use Rattle.page_table.proofs.Descents.{leads-below, end-stuck, end-on}
-use Rattle.page_table.proofs.Ends.{tree-fits, tree-ends}
-use Rattle.table_bytes.specs.TableBytes.{wordsOf}
-use Rattle.table_bytes.proofs.Words.{words-length, word-inside, word-stands}
+use Rattle.page_table.specs.Walk.{indexBelow}
+use Rattle.page_table.proofs.Stretches.{index-lt, stretch-length, stretch-at}
+use Rattle.page_table.proofs.Descents.{leads-inside, leads-below}
+use Rattle.table_bytes.specs.TableBytes.{wordsOf, stretchBytes}
+use Rattle.table_bytes.proofs.Words.{words-length, word-stands}
 
--- a word that has levels below it: no way on, or on to the word below
-module _ (bytes : List ℕ) (vpn levels word at : ℕ) (more : levels ≡ 0 → ⊥)
-    (h : at < length (wordsOf bytes)) (read : word ≡ elementAt 4 bytes at)
-    (b : Bool) (judged : b ≡ leadsOn (length bytes / 4) (levels - 1) word) where
-  in-words : b ≡ leadsOn (length (wordsOf bytes)) (levels - 1) word
-  in-words = rw words-length judged
+-- the test on the bytes' length is that on the words'
+pub in-words : (bytes : List ℕ) (levels word : ℕ) (b : Bool) → b ≡ leadsOn (length bytes / 4) levels word
+    → b ≡ leadsOn (length (wordsOf bytes)) levels word
+in-words bytes levels word b judged = rw words-length judged
 
-  pub word-stuck : not b ≡ true → 4 * at + levels ≡ endOf (wordsOf bytes) vpn levels at
-  word-stuck off = end-stuck (wordsOf bytes) vpn levels word at more (word-stands bytes at word h read) b in-words off
+-- a number in a stretch of bytes
+element-in : (bytes : List ℕ) (size n i : ℕ) → i < size → elementAt 4 (stretchBytes bytes size n) i ≡ elementAt 4 bytes (size * n + i)
+unfolding stretchBytes elementAt numberAt
+element-in bytes size n i h = go 4 (omega arith)
+  where
+    at : (w : ℕ) → 4 * size * n + (4 * i + w) ≡ 4 * (size * n + i) + w
+    at w = omega (arith, mul-assoc 4 size n)
 
-  module _ (on : not b ≡ false) (next : ℕ) (below : next ≡ indexBelow vpn (levels - 1) word) where
-    pub next-word : vpn < 524288 → next < length (wordsOf bytes)
-    next-word page = rw below (leads-below (length (wordsOf bytes)) vpn (levels - 1) word page (sym in-words ∙ not-false b on))
+    go : (w : ℕ) → w ≤ 4 → numberAt w (stretch bytes (4 * size) n) (4 * i) ≡ numberAt w bytes (4 * (size * n + i))
+    go zero l = refl
+    go (suc w) l = rw (go w (omega arith), stretch-at bytes (4 * size) n (4 * i + w) (omega arith), at w)
 
-    pub word-on : (r : ℕ) → r ≡ endOf (wordsOf bytes) vpn (levels - 1) next → r ≡ endOf (wordsOf bytes) vpn levels at
-    word-on r given = end-on (wordsOf bytes) vpn levels word at more (word-stands bytes at word h read) b in-words on r next below given
+module _ (bytes : List ℕ) (levels word : ℕ) (on : leadsOn (length (wordsOf bytes)) levels word ≡ true) where
+  -- what a word leads on to is inside the bytes
+  pub bytes-inside : (size n : ℕ) → size ≡ stretchSize levels → n ≡ number word → 4 * size * n + 4 * size ≤ length bytes
+  bytes-inside size n sized numbered =
+      let inside : size * n + size ≤ length bytes / 4 =
+      rw (sized, numbered, ← words-length bytes) (leads-inside (length (wordsOf bytes)) levels word on) in
+      omega (arith, mul-assoc 4 size n)
 
--- the end of a tree's walk: a word of the run, which gives the answer
-module _ (bytes : List ℕ) (vpn root end : ℕ) (page : vpn < 524288) (h : root < length (wordsOf bytes)) (fits : root < 4294967296)
-    (ends : end ≡ endOf (wordsOf bytes) vpn 2 root) where
-  pub end-word : (end % 4 ≤ 2) × (4 * (end / 4) + 4 ≤ length bytes) × (end / 4 < 4294967296)
-  end-word = let e = tree-fits (wordsOf bytes) vpn 2 root end ends page (omega arith) h fits in (e .0, word-inside bytes (end / 4) (e .1), e .2)
+  -- the next word, in the stretch that was lent
+  module _ (vpn : ℕ) (page : vpn < 524288) (part : List ℕ) (lent : part ≡ stretchBytes bytes (stretchSize levels) (number word))
+      (i : ℕ) (placed : i ≡ indexIn levels vpn) where
+    pub next-inside : 4 * i + 4 ≤ length part
+    unfolding stretchBytes
+    next-inside =
+        let size = stretchSize levels in
+        let long = stretch-length bytes (4 * size) (number word) (bytes-inside size (number word) refl refl) in
+        omega (arith, ap length lent ∙ long, placed, index-lt levels vpn page)
 
-  pub end-says : (global : Bool) (word : ℕ) (r : Walk) → word ≡ elementAt 4 bytes (end / 4) → r ≡ decided global (end % 4) word (end / 4)
-      → r ≡ walkTree (wordsOf bytes) vpn global root
-  unfolding ending
-  end-says global word r read given =
-      let stands = word-stands bytes (end / 4) word (tree-fits (wordsOf bytes) vpn 2 root end ends page (omega arith) h fits .1) read in
-      tree-ends (wordsOf bytes) vpn global root end r ends (given ∙ ap (λ (w : ℕ). decided global (end % 4) w (end / 4)) stands)
+    pub next-stands : (next index : ℕ) → next ≡ elementAt 4 part i → index ≡ indexBelow vpn levels word → next ≡ getD (wordsOf bytes) index 0
+    unfolding indexBelow
+    next-stands next index read e =
+        let below = leads-below (length (wordsOf bytes)) vpn levels word page on in
+        rw e (word-stands bytes (indexBelow vpn levels word) next below
+        (read ∙ rw (lent, placed) (element-in bytes (stretchSize levels) (number word) (indexIn levels vpn) (index-lt levels vpn page))))

@@ -2,48 +2,64 @@
 ghost use mathlib.Core.Bool.{true};
 ghost use mathlib.Core.Path.{_≡_};
 ghost use Prim.Native.Nat.{_≤_, _<_, _^_};
-ghost use lib.ListN.{length};
+ghost use lib.ListN.{length, getD};
 ghost use Rattle.entry.specs.Entry.{unpack};
-ghost use Rattle.page_table.specs.Ends.{endOf};
+ghost use Rattle.page_table.specs.Words.{number};
+ghost use Rattle.page_table.specs.Stretches.{stretchSize};
+ghost use Rattle.page_table.specs.Reads.{leadsOn};
+ghost use Rattle.page_table.specs.Ends.{endRead};
 ghost use Rattle.page_table.specs.Walk.{walkTree, walkPage};
 ghost use Rattle.slots.specs.Buffer.{Buffer, bufferFits};
 ghost use Rattle.store.specs.Sweep.{SweepGives, kept};
-ghost use Rattle.table_bytes.specs.TableBytes.{wordsOf, RewriteGives};
+ghost use Rattle.table_bytes.specs.TableBytes.{wordsOf, stretchBytes, RewriteGives};
 use page_table::Walk;
 use store::Claim;
 
-// The walk from the word at an index, which has so many levels below it: where it ends, as four times the index of the word that
-// decides, and the levels below that word. The run is lent as in the walk on words.
-fn descend(tables: &&[u8], vpn: u32, levels: u32, index: u32) -> u64
-    requires { ⌜ (vpn < 524288) × (levels ≤ 2) × (index < length (wordsOf (now (now tables)))) ⌝ }
-    ensures { λ r. ⌜ r ≡ endOf (wordsOf (now (now (tables .entry)))) vpn levels index ⌝ }
+// The directory or table that a word leads on to: that very stretch of the lent bytes.
+fn stretch<'a>(tables: &'a [u8], levels: u32, word: u32) -> &'a [u8]
+    requires { ⌜ leadsOn (length (wordsOf (now tables))) levels word ≡ true ⌝ }
+    ensures { λ r. ⌜ now r ≡ stretchBytes (now (tables .entry)) (stretchSize levels) (number word) ⌝ }
+{
+    let size = 4 * page_table::stretch_size(levels);
+    let from = size * page_table::number_of(word);
+    let to = from + size;
+    &tables[from..to]
+}
+
+// The walk from a word, which stands at an index of the run and has so many levels below it: where it ends, and the word that it read
+// there. The run is lent as in the walk on words.
+fn descend(tables: &&[u8], vpn: u32, levels: u32, word: u32, index: u32) -> u64
+    requires { ⌜ (vpn < 524288) × (levels ≤ 2) × (index < 67108864) × (word ≡ getD (wordsOf (now (now tables))) index 0) ⌝ }
+    ensures { λ r. ⌜ r ≡ endRead (wordsOf (now (now (tables .entry)))) vpn levels index ⌝ }
 {
     if levels == 0 {
-        return 4 * index as u64;
+        return page_table::end_at(levels, word, index);
     }
     let run = *tables;
-    let word = wire::word_at(run, index as usize);
     let below = levels - 1;
     if !page_table::leads_on(run.len() / 4, below, word) {
-        return 4 * index as u64 + levels as u64;
+        return page_table::end_at(levels, word, index);
     }
+    let part = stretch(run, below, word);
+    let at = page_table::index_in(below, vpn);
+    let next = wire::word_at(part, at);
     descend(
         tables,
         vpn,
         below,
+        next,
         page_table::index_below(vpn, below, word),
     )
 }
 
 // The walk of one tree, from its root.
 fn walk_tree(tables: &[u8], vpn: u32, global: bool, root: u32) -> Walk
-    requires { ⌜ (vpn < 524288) × (root < length (wordsOf (now tables))) ⌝ }
+    requires { ⌜ (vpn < 524288) × (root ≤ 63) × (256 ≤ length (now tables)) ⌝ }
     ensures { λ r. ⌜ r ≡ walkTree (wordsOf (now (tables .entry))) vpn global root ⌝ }
 {
-    let end = descend(&tables, vpn, 2, root);
-    let index = (end / 4) as u32;
-    let word = wire::word_at(tables, index as usize);
-    page_table::decided(global, (end % 4) as u32, word, index)
+    let word = wire::word_at(tables, root as usize);
+    let end = descend(&tables, vpn, 2, word, root);
+    page_table::ended(global, end)
 }
 
 // The walk of a page under an identification: the global tree first, and the own tree where that has nothing.

@@ -3,13 +3,14 @@ use native.Mathlib.Nat.{pos-of-ne-zero}
 use native.Mathlib.Omega.{arith}
 use mathlib.Core.Path.{sym, _∙_}
 use borrow.Author.Tests.{not-false}
-use Rattle.page_table.proofs.Descents.{next-inside, next-stands, index-in-lt, end-leaf, end-stuck, end-on}
+use Rattle.page_table.proofs.Descents.{next-inside, next-stands, below-lt, index-in-lt, end-leaf, end-stuck, end-on}
 use Prim.Native.Nat.{ℕ, _<_}
 use borrow.Fn.Kinds.{In}
 use borrow.Fn.PlainCycle.{Measures, is, falls, and}
 use Rattle.page_table.proofs.descend.Reads as descend
 use Rattle.page_table.proofs.descend.Kinds as kinds
 use Rattle.page_table.proofs.+descend.Lts-descend as lts
+use Rattle.page_table.proofs.end_at.Reads as end-at
 use Rattle.page_table.proofs.leads_on.Reads as leads-on
 use Rattle.page_table.proofs.stretch.Reads as stretch
 use Rattle.page_table.proofs.index_in.Reads as index-in
@@ -30,6 +31,8 @@ below t = and 2 kinds.ps (falls 2 kinds.ps _<_ μ t) descend.Pre
 -- the contracts of what it calls
 abbrev claims : ℕ → lts.Claims
 claims t = (
+  end-at.Asked,
+  end-at.Learnt,
   leads-on.Asked,
   leads-on.Learnt,
   stretch.Asked,
@@ -42,11 +45,13 @@ claims t = (
   descend.Post,
 )
 
-mul-result : (t : ℕ) → lts.Need-mul-result (claims t) (at t) descend.Post
-mul-result t c = omega arith
+end-at-requires : (t : ℕ) → lts.Need-end-at-requires (claims t) (at t) descend.Post
+end-at-requires t c κs = (c .before .pre .1 .1, c .before .pre .1 .2)
 
 returns : (t : ℕ) → lts.Need-returns (claims t) (at t) descend.Post
-returns t c = end-leaf _ _ _ 0 _ (c .if1 .taken)
+returns t c =
+    let start = c .before .before in
+    end-leaf _ _ _ _ _ (start .pre .1 .1) (start .pre .1 .3) _ (c .before .if1 .taken) (c .end-at .ensures)
 
 sub-below : (t : ℕ) → lts.Need-sub-below (claims t) (at t) descend.Post
 sub-below t c = pos-of-ne-zero (c .before .if1 .left)
@@ -54,17 +59,15 @@ sub-below t c = pos-of-ne-zero (c .before .if1 .left)
 leads-on-requires : (t : ℕ) → lts.Need-leads-on-requires (claims t) (at t) descend.Post
 leads-on-requires t c κs = tt
 
-mul-result-2 : (t : ℕ) → lts.Need-mul-result-2 (claims t) (at t) descend.Post
-mul-result-2 t c = omega arith
-
-add-result : (t : ℕ) → lts.Need-add-result (claims t) (at t) descend.Post
-add-result t c = omega (arith, c .before .before .before .before .pre .1 .1)
+end-at-requires-2 : (t : ℕ) → lts.Need-end-at-requires-2 (claims t) (at t) descend.Post
+end-at-requires-2 t c κs = let start = c .before .before .before .before in (start .pre .1 .1, start .pre .1 .2)
 
 returns-2 : (t : ℕ) → lts.Need-returns-2 (claims t) (at t) descend.Post
 returns-2 t c =
-    let start = c .before .before .before .before in
-    let more = c .before .before .before .if1 .left in
-    end-stuck _ _ _ _ _ more (start .pre .1 .2) _ (c .before .leads-on .ensures) (c .if2 .taken)
+    let start = c .before .before .before .before .before in
+    let more = c .before .before .before .before .if1 .left in
+    let judged = c .before .before .leads-on .ensures in
+    end-stuck _ _ _ _ _ (start .pre .1 .1) (start .pre .1 .3) _ more _ judged (c .before .if2 .taken) (c .end-at2 .ensures)
 
 stretch-requires : (t : ℕ) → lts.Need-stretch-requires (claims t) (at t) descend.Post
 stretch-requires t c κs = sym (c .before .leads-on .ensures) ∙ not-false _ (c .if2 .left)
@@ -96,7 +99,8 @@ descend-requires t c κs =
     let lent = c .before .before .before .stretch .ensures in
     let placed = c .before .before .index-in .ensures in
     let stands = next-stands _ _ _ _ (start .pre .1 .0) on _ lent _ placed _ (c .index-below .ensures) in
-    (omega (arith, start .pre .0, more), (start .pre .1 .0, omega arith, stands))
+    let room = below-lt _ _ _ _ (start .pre .1 .0) (c .index-below .ensures) in
+    (omega (arith, start .pre .0, more), (start .pre .1 .0, omega arith, room, stands))
 
 returns-3 : (t : ℕ) → lts.Need-returns-3 (claims t) (at t) descend.Post
 returns-3 t c =
@@ -104,18 +108,18 @@ returns-3 t c =
     let more = c .before .before .before .before .before .before .before .before .if1 .left in
     let judged = c .before .before .before .before .before .before .leads-on .ensures in
     let on = c .before .before .before .before .before .if2 .left in
-    end-on _ _ _ _ _ more (start .pre .1 .2) _ judged on _ _ (c .before .index-below .ensures) (c .descend .ensures)
+    let next = c .before .index-below .ensures in
+    end-on _ _ _ _ _ (start .pre .1 .1) (start .pre .1 .3) _ more _ judged on _ next (c .descend .ensures)
 
 pub +descend-spec : {M : Type 1} → statement M
 +descend-spec = close μ λ t. lts.spec (claims t)
     (at t)
     descend.Post
-    (mul-result t)
+    (end-at-requires t)
     (returns t)
     (sub-below t)
     (leads-on-requires t)
-    (mul-result-2 t)
-    (add-result t)
+    (end-at-requires-2 t)
     (returns-2 t)
     (stretch-requires t)
     (index-in-requires t)

@@ -17,10 +17,12 @@ descend-requires c κs = search needs
 ended-requires : tie.Need-ended-requires
 ended-requires c κs =
     let start = c .before .before .before .before in
-    tree-fits _ _ _ _ _ (c .descend .ensures) (start .pre .0) (omega arith) (start .pre .1) (omega arith)
+    tree-fits _ _ _ _ _ (start .pre .0) (omega arith) (start .pre .1) (c .descend .ensures)
 
 returns : tie.Need-returns
-returns c = tree-ends _ _ _ _ _ _ (c .before .descend .ensures) (c .ended .ensures)
+returns c =
+    let start = c .before .before .before .before .before in
+    tree-ends _ _ _ _ (start .pre .0) (start .pre .1) (c .before .descend .ensures) _ _ (c .ended .ensures)
 
 pub walk-tree-spec : {M : Type 1} → statement M
 walk-tree-spec = tie.close (tie.spec mul-word shared-slice-read-word descend-requires ended-requires returns)

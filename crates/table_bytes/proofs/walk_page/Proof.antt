@@ -1,13 +1,11 @@
 -- `table_bytes::walk_page` meets its contract. Assumes nothing.
-use native.Mathlib.Omega.{arith}
 use Rattle.page_table.proofs.Descents.{first-decides, own-decides}
-use Rattle.table_bytes.proofs.Words.{root-inside}
 use borrow.Author.Needs.{needs}
 use Rattle.table_bytes.proofs.walk_page.Statement.{statement}
 use Rattle.table_bytes.proofs.walk_page.Tie as tie
 
 walk-tree-requires : tie.Need-walk-tree-requires
-walk-tree-requires c κs = (c .before .pre .1, root-inside _ _ (c .before .pre .2) (omega arith))
+walk-tree-requires c κs = search needs
 
 enum-told : tie.Need-enum-told
 enum-told c = search needs
@@ -16,9 +14,7 @@ returns : tie.Need-returns
 returns c = first-decides _ _ _ _ (c .before .walk-tree .ensures) (c .match .keys2)
 
 walk-tree-requires-2 : tie.Need-walk-tree-requires-2
-walk-tree-requires-2 c κs =
-    let start = c .before .before .before .before in
-    (start .pre .1, root-inside _ _ (start .pre .2) (start .pre .0))
+walk-tree-requires-2 c κs = search needs
 
 returns-2 : tie.Need-returns-2
 returns-2 c =

@@ -1,40 +1,29 @@
--- `table_bytes::walk_tree` meets its contract: its answer is by the word at which it ends. Assumes nothing.
+-- `table_bytes::walk_tree` meets its contract: its answer is by where it ends. Assumes nothing.
 use native.Mathlib.Omega.{arith}
-use Rattle.table_bytes.proofs.Steps.{end-word, end-says}
+use Rattle.page_table.proofs.Ends.{tree-fits, tree-ends}
+use Rattle.table_bytes.proofs.Words.{root-inside, word-stands}
 use borrow.Author.Needs.{needs}
 use Rattle.table_bytes.proofs.walk_tree.Statement.{statement}
 use Rattle.table_bytes.proofs.walk_tree.Tie as tie
 
-descend-requires : tie.Need-descend-requires
-descend-requires c κs = search needs
-
-cast-index : tie.Need-cast-index
-cast-index c =
-    let start = c .before .before .before in
-    omega (arith, end-word _ _ _ _ (start .pre .0) (start .pre .1) (omega arith) (c .descend .ensures))
-
-cast-word-at : tie.Need-cast-word-at
-cast-word-at c = search needs
-
 word-at-requires : tie.Need-word-at-requires
-word-at-requires c κs =
+word-at-requires c κs = search needs
+
+descend-requires : tie.Need-descend-requires
+descend-requires c κs =
     let start = c .before .before .before in
-    end-word _ _ _ _ (start .pre .0) (start .pre .1) (omega arith) (c .descend .ensures) .1
+    let read = c .before .word-at .ensures in
+    (start .pre .0, omega arith, omega (arith, start .pre .1), word-stands _ _ _ (root-inside _ _ (start .pre .2) (start .pre .1)) read)
 
-cast-decided : tie.Need-cast-decided
-cast-decided c = search needs
-
-decided-requires : tie.Need-decided-requires
-decided-requires c κs =
+ended-requires : tie.Need-ended-requires
+ended-requires c κs =
     let start = c .before .before .before .before in
-    end-word _ _ _ _ (start .pre .0) (start .pre .1) (omega arith) (c .before .descend .ensures) .0
+    tree-fits _ _ _ _ _ (start .pre .0) (omega arith) (start .pre .1) (c .descend .ensures)
 
 returns : tie.Need-returns
 returns c =
     let start = c .before .before .before .before .before in
-    let ends = c .before .before .descend .ensures in
-    end-says _ _ _ _ (start .pre .0) (start .pre .1) (omega arith) ends _ _ _ (c .before .word-at .ensures) (c .decided .ensures)
+    tree-ends _ _ _ _ (start .pre .0) (start .pre .1) (c .before .descend .ensures) _ _ (c .ended .ensures)
 
 pub walk-tree-spec : {M : Type 1} → statement M
-walk-tree-spec =
-    tie.close (tie.spec descend-requires cast-index cast-word-at word-at-requires cast-decided decided-requires returns)
+walk-tree-spec = tie.close (tie.spec word-at-requires descend-requires ended-requires returns)
