@@ -5,7 +5,7 @@ use mathlib.Core.Bool.{false}
 use native.Mathlib.Omega.{arith}
 use borrow.Author.Tests.{ne-eqb}
 use Rattle.runs.proofs.Bools.{clash}
-use Rattle.registers.specs.Refusals.{refuseUnless, byRefusal}
+use Rattle.registers.specs.Refusals.{refuseUnless, machineRefusal, byRefusal}
 use Rattle.table_bytes.specs.TableBytes.{wordsOf}
 use Rattle.mmu_c.specs.Runs.{registersOf, bufferOf, registersTaken, bufferTaken, tablesTaken, machineOf}
 use Rattle.mmu_c.specs.ServedAccess.{servedRefusal, servedNumber, servedRegisters, servedBytes}
@@ -78,8 +78,8 @@ refused-leave-all now (HostSetting given number value) answer after no′ g = re
 -- a wrong length is refused, by one of the first three tests
 module _ (h : Bytes) (later : ℕ) where
   length-refused : longRight h ≡ false
-      → let n = refuseUnless (registersTaken (h .registers)) 1 (refuseUnless (bufferTaken (h .buffer)) 2
-      (refuseUnless (tablesTaken (h .tables)) 3 later)) in (1 ≤ n) × (n ≤ 3)
+      → let n = machineRefusal (registersTaken (h .registers)) (bufferTaken (h .buffer)) (tablesTaken (h .tables)) later in
+      (1 ≤ n) × (n ≤ 3)
   unfolding longRight
   length-refused e =
       refused-within (registersTaken (h .registers)) 1 _ 3 (omega arith) (omega arith) (λ r.

@@ -16,7 +16,7 @@ use Rattle.entry.proofs.Fields.{vpn-lt}
 use Rattle.registers.specs.Fields.{put, registersFit}
 use Rattle.registers.specs.Refusals.{drawFits}
 use Rattle.registers.specs.Replies.{refusalOf, refused, answered}
-use Rattle.registers.proofs.RefusalLaws.{passed, when-accepted, when-refused, answer-refusal}
+use Rattle.registers.proofs.RefusalLaws.{passed, machine-passed, when-accepted, when-refused, answer-refusal}
 use Rattle.registers.specs.declared.Access.{Access}
 use Rattle.registers.specs.declared.Outcome.the-variants.{At, Fault}
 use Rattle.registers.specs.declared.Registers.{Registers}
@@ -54,11 +54,9 @@ pub served-accepted : (m : Machine) (a : Access) → servedRefusal m a ≡ 0
     → Accepted (m .registers) (m .buffer) a × (64 ≤ length (m .words))
 unfolding servedRefusal
 served-accepted m a h =
-    let one = passed (registersFit (m .registers)) 1 _ (λ e. omega arith) h in
-    let two = passed (bufferFits (m .buffer)) 2 _ (λ e. omega arith) (one .1) in
-    let three = passed (tablesFit (m .words)) 3 _ (λ e. omega arith) (two .1) in
-    let four = passed (drawFits (a .draw)) 4 _ (λ e. omega arith) (three .1) in
-    (record { registers-fit = one .0; buffer-fits = two .0; draw-fits = four .0 }, fit-roots (m .words) (three .0))
+    let early = machine-passed (registersFit (m .registers)) (bufferFits (m .buffer)) (tablesFit (m .words)) _ h in
+    let four = passed (drawFits (a .draw)) 4 _ (λ e. omega arith) (early .3) in
+    (record { registers-fit = early .0; buffer-fits = early .1; draw-fits = four .0 }, fit-roots (m .words) (early .2))
 
 pub page-lt : (address vpn : ℕ) → vpn ≡ vpnOf address → vpn < 524288
 page-lt address vpn q = subst (λ (n : ℕ). n < 524288) (sym q) (vpn-lt address)

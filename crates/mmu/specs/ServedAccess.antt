@@ -6,7 +6,7 @@ use lib.Dec.{eqb}
 use Rattle.entry.specs.Address.{vpnOf}
 use Rattle.entry.specs.Entry.{pack}
 use Rattle.registers.specs.Fields.{put, registersFit, SELECT}
-use Rattle.registers.specs.Refusals.{refuseUnless, byRefusal, drawFits}
+use Rattle.registers.specs.Refusals.{refuseUnless, machineRefusal, byRefusal, drawFits}
 use Rattle.registers.specs.Replies.{refusalOf, refused, answered}
 use Rattle.registers.specs.declared.Access.{Access}
 use Rattle.registers.specs.declared.Outcome.{Outcome}
@@ -39,10 +39,8 @@ serviceRefusal r draw = refuseUnless (drawFits draw) 4 (refuseUnless (mayBeServe
 
 unfoldable pub servedRefusal : Machine → Access → ℕ
 servedRefusal m a =
-    refuseUnless (registersFit (m .registers)) 1
-    (refuseUnless (bufferFits (m .buffer)) 2
-    (refuseUnless (tablesFit (m .words)) 3
-    (serviceRefusal (m .registers) (a .draw))))
+    machineRefusal (registersFit (m .registers)) (bufferFits (m .buffer)) (tablesFit (m .words))
+    (serviceRefusal (m .registers) (a .draw))
 
 -- the address, or where there is none the exception's value as the fault
 unfoldable pub outcomeOf : Physical → (value : ℕ) → Outcome

@@ -101,14 +101,13 @@ fn served_refusal(r: Registers, buffer: &[u64], words: &[u32], a: Access) -> u32
     ensures { λ n. ⌜ n ≡ servedRefusal
         (record { registers = r; buffer = Buffer.Wide (now (buffer .entry)); words = now (words .entry) }) a ⌝ }
 {
-    if !registers::registers_fit(r) {
-        return 1;
-    }
-    if !slots::buffer_fits(buffer) {
-        return 2;
-    }
-    if !page_table::tables_fit(words) {
-        return 3;
+    let early = registers::machine_refusal(
+        registers::registers_fit(r),
+        slots::buffer_fits(buffer),
+        page_table::tables_fit(words),
+    );
+    if early != 0 {
+        return early;
     }
     service_refusal(r, a.draw)
 }

@@ -5,7 +5,7 @@ use mathlib.Core.Bool.{Bool, true, false}
 use native.Mathlib.Omega.{arith}
 use borrow.Author.Tests.{ltb-true}
 use Rattle.runs.specs.Bits.{bit}
-use Rattle.registers.specs.Refusals.{refuseUnless}
+use Rattle.registers.specs.Refusals.{refuseUnless, machineRefusal}
 use Rattle.registers.specs.declared.Outcome.{Outcome}
 use Rattle.registers.specs.declared.Outcome.the-variants.{At, Fault, Done, Refused}
 use Rattle.registers.specs.declared.Reply.{Reply}
@@ -67,3 +67,7 @@ pub refusal-room : (test : Bool) (number later : ℕ) → number < 256 → later
 unfolding refuseUnless
 refusal-room true number later l m = m
 refusal-room false number later l m = l
+
+pub machine-room : (registers buffer tables : Bool) (later : ℕ) → later < 256 → machineRefusal registers buffer tables later < 256
+machine-room registers buffer tables later l =
+    refusal-room registers 1 _ (omega arith) (refusal-room buffer 2 _ (omega arith) (refusal-room tables 3 later (omega arith) l))

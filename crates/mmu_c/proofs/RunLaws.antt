@@ -3,6 +3,7 @@ use Prim.Native.Nat.{ℕ, _/_, _%_, _≤_}
 use mathlib.Core.Path.{_≡_, refl, sym, ap, _∙_}
 use mathlib.Core.Bool.{Bool, true, false, _&&_}
 use mathlib.Core.List.{List}
+use native.Mathlib.Omega.{arith}
 use lib.Dec.{eqb, leb, ltb}
 use lib.ListN.{length}
 use borrow.Author.Tests.{eq-eqb, ne-eqb, eqb-true, leb-true}
@@ -11,7 +12,8 @@ use Rattle.wire.specs.Wire.{encoded, decoded, AreBytes}
 use Rattle.wire.proofs.Elements.{decoded-length}
 use Rattle.wire.proofs.Trips.{back}
 use Rattle.registers.specs.Fields.{registersFit, FIELDS}
-use Rattle.registers.specs.Refusals.{refuseUnless}
+use Rattle.registers.specs.Refusals.{refuseUnless, machineRefusal}
+use Rattle.registers.proofs.RefusalLaws.{machine-passed}
 use Rattle.registers.proofs.Fields.{to-from}
 use Rattle.registers.specs.declared.Registers.{Registers}
 use Rattle.store.specs.TableStore.{indexFits}
@@ -59,6 +61,28 @@ tables-told bytes h =
     let n = length bytes in
     let ends = both (leb 4096 n && leb n 65536) (eqb (n % 4096) 0) h in
     leb-true 4096 n ((both (leb 4096 n) (leb n 65536) (ends .0)) .0)
+
+-- what a call that takes all three runs and is not refused by them was handed
+pub record Handed (registers buffer tables : List ℕ) (later : ℕ) : Type 0 where
+  pub registers-long : length registers ≡ 44
+  pub registers-fit : registersFit (registersOf registers) ≡ true
+  pub buffer-long : length buffer ≡ 512
+  pub tables-long : 256 ≤ length tables
+  pub later-passed : later ≡ 0
+
+pub handed : (registers buffer tables : List ℕ) (later n : ℕ)
+    → n ≡ machineRefusal (registersTaken registers) (bufferTaken buffer) (tablesTaken tables) later → n ≡ 0
+    → Handed registers buffer tables later
+handed registers buffer tables later n nq z =
+    let told = machine-passed (registersTaken registers) (bufferTaken buffer) (tablesTaken tables) later (sym nq ∙ z) in
+    let one = registers-told registers (told .0) in
+    record {
+      registers-long = one .0;
+      registers-fit = one .1;
+      buffer-long = buffer-told buffer (told .1);
+      tables-long = omega (arith, tables-told tables (told .2));
+      later-passed = told .3;
+    }
 
 -- an index is tested by the tables' length
 pub index-test : (bytes : List ℕ) (index : ℕ) → ltb index (length bytes / 4) ≡ indexFits (wordsOf bytes) index

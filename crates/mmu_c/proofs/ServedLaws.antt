@@ -11,7 +11,7 @@ use denote.Enum.Declared.{tagOf}
 use Rattle.wire.specs.Wire.{AreBytes}
 use Rattle.entry.specs.Address.{vpnOf}
 use Rattle.registers.specs.Fields.{registersFit}
-use Rattle.registers.specs.Refusals.{refuseUnless, drawFits}
+use Rattle.registers.specs.Refusals.{machineRefusal, drawFits}
 use Rattle.registers.proofs.RefusalLaws.{passed, when-accepted, when-refused}
 use Rattle.registers.specs.Replies.{answered}
 use Rattle.registers.specs.declared.Access.{Access}
@@ -45,8 +45,8 @@ use Rattle.mmu_c.specs.Answers.{refusalAnswer, rawAnswer, translationAns
 use Rattle.mmu_c.specs.Location.{Fetched, putBack}
 use Rattle.mmu_c.specs.ServedAccess.{servedRefusal, servedReply, servedBuffer, servedNumber, servedRegisters, servedBytes}
 use Rattle.mmu_c.specs.ServedAccess.{AccessGivesBytes, ServedAccessGives}
-use Rattle.mmu_c.proofs.AnswerLaws.{refusal-room}
-use Rattle.mmu_c.proofs.RunLaws.{short-refusal, long-refusal, registers-told, registers-back, buffer-told, tables-told}
+use Rattle.mmu_c.proofs.AnswerLaws.{refusal-room, machine-room}
+use Rattle.mmu_c.proofs.RunLaws.{short-refusal, long-refusal, registers-back, Handed, handed}
 use Rattle.mmu_c.proofs.Locations.{buffer-fits, run-fits, fetched-same}
 use Rattle.mmu_c.proofs.PutBack.{bytes-back, put-back}
 
@@ -146,25 +146,22 @@ module _ (registers buffer tables : List ℕ) (a : Access) where
   refusal-short h = short-refusal registers _ h
 
   pub refusal-long : (r : Registers) (n : ℕ) → length registers ≡ 44 → r ≡ registersOf registers
-      → n ≡ refuseUnless (registersFit r) 1 (refuseUnless (bufferTaken buffer) 2
-      (refuseUnless (tablesTaken tables) 3 (serviceRefusal r (a .draw))))
+      → n ≡ machineRefusal (registersFit r) (bufferTaken buffer) (tablesTaken tables) (serviceRefusal r (a .draw))
       → n ≡ servedRefusal registers buffer tables a
   unfolding servedRefusal
   refusal-long r n e rq q =
       q
       ∙ long-refusal registers r _ e rq
-      ∙ ap (λ (s : Registers). refuseUnless (registersTaken registers) 1 (refuseUnless (bufferTaken buffer) 2
-      (refuseUnless (tablesTaken tables) 3 (serviceRefusal s (a .draw))))) rq
+      ∙ ap (λ (s : Registers). machineRefusal (registersTaken registers) (bufferTaken buffer) (tablesTaken tables)
+      (serviceRefusal s (a .draw))) rq
 
 -- the call
 module _ (registers buffer tables : List ℕ) (a : Access) (n : ℕ) (nq : n ≡ servedRefusal registers buffer tables a) where
   pub refusal-lt : n < 256
   unfolding servedRefusal
-  refusal-lt = subst (λ (k : ℕ). k < 256) (sym nq) (refusal-room (registersTaken registers) 1 _ (omega arith)
-      (refusal-room (bufferTaken buffer) 2 _ (omega arith)
-      (refusal-room (tablesTaken tables) 3 _ (omega arith)
+  refusal-lt = subst (λ (k : ℕ). k < 256) (sym nq) (machine-room (registersTaken registers) (bufferTaken buffer) (tablesTaken tables) _
       (refusal-room (drawFits (a .draw)) 4 _ (omega arith)
-      (refusal-room (mayBeServed (registersOf registers)) 5 0 (omega arith) (omega arith))))))
+      (refusal-room (mayBeServed (registersOf registers)) 5 0 (omega arith) (omega arith))))
 
   pub refused : (answer : ℕ) → (n ≡ 0 → ⊥) → answer ≡ refusalAnswer n
       → ServedAccessGives registers buffer tables a answer registers buffer
@@ -177,26 +174,19 @@ module _ (registers buffer tables : List ℕ) (a : Access) (n : ℕ) (nq : n ≡
 
   -- an access that is not refused
   module _ (z : n ≡ 0) where
-    pub lengths : (length registers ≡ 44) × (length buffer ≡ 512) × (256 ≤ length tables)
+    told : Handed registers buffer tables (serviceRefusal (registersOf registers) (a .draw))
     unfolding servedRefusal
-    lengths =
-        let one = passed (registersTaken registers) 1 _ (λ e. omega arith) (sym nq ∙ z) in
-        let two = passed (bufferTaken buffer) 2 _ (λ e. omega arith) (one .1) in
-        let three = passed (tablesTaken tables) 3 _ (λ e. omega arith) (two .1) in
-        ((registers-told registers (one .0)) .0, buffer-told buffer (two .0), omega (arith, tables-told tables (three .0)))
+    told = handed registers buffer tables _ n nq z
+
+    pub lengths : (length registers ≡ 44) × (length buffer ≡ 512) × (256 ≤ length tables)
+    lengths = (told .registers-long, told .buffer-long, told .tables-long)
 
     pub accepted : (r : Registers) → r ≡ registersOf registers → Accepted r (bufferOf buffer) a
-    unfolding servedRefusal
-    accepted r rq =
-        let one = passed (registersTaken registers) 1 _ (λ e. omega arith) (sym nq ∙ z) in
-        let two = passed (bufferTaken buffer) 2 _ (λ e. omega arith) (one .1) in
-        let three = passed (tablesTaken tables) 3 _ (λ e. omega arith) (two .1) in
-        let four = passed (drawFits (a .draw)) 4 _ (λ e. omega arith) (three .1) in
-        record {
-          registers-fit = ap registersFit rq ∙ (registers-told registers (one .0)) .1;
-          buffer-fits = buffer-fits buffer;
-          draw-fits = four .0;
-        }
+    accepted r rq = record {
+      registers-fit = ap registersFit rq ∙ told .registers-fit;
+      buffer-fits = buffer-fits buffer;
+      draw-fits = passed (drawFits (a .draw)) 4 _ (λ e. omega arith) (told .later-passed) .0;
+    }
 
     pub served : (r : Registers) (reply : Reply) (after : List ℕ) → r ≡ registersOf registers
         → AccessGivesBytes (machine r buffer tables) a reply after → (answer : ℕ) (registers-after : List ℕ)

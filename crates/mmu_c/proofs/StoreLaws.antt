@@ -6,6 +6,7 @@ use native.Mathlib.Omega.{arith}
 use lib.ListN.{length}
 use borrow.Author.Tests.{ltb-true}
 use Rattle.wire.specs.Wire.{encoded, decoded}
+use Rattle.registers.specs.Refusals.{refuseUnless}
 use Rattle.registers.proofs.RefusalLaws.{passed, when-accepted, when-refused}
 use Rattle.slots.specs.Buffer.Buffer.{Wide}
 use Rattle.store.specs.Sweep.{swept, emptied}
@@ -15,29 +16,22 @@ use Rattle.table_bytes.specs.TableBytes.{wordsOf, RewriteGives}
 use Rattle.mmu_c.specs.Runs.{bufferOf, bufferBytes, registersTaken, bufferTaken, tablesTaken}
 use Rattle.mmu_c.specs.Answers.{refusalAnswer}
 use Rattle.mmu_c.specs.TableStore.{storeRefusal, storedWords, storeNumber, storeBytes, storeTables, TableStoreGives}
-use Rattle.mmu_c.proofs.AnswerLaws.{refusal-room}
-use Rattle.mmu_c.proofs.RunLaws.{buffer-told, tables-told}
+use Rattle.mmu_c.proofs.AnswerLaws.{refusal-room, machine-room}
+use Rattle.mmu_c.proofs.RunLaws.{handed}
 
 -- what the refusal's number tells
 module _ (registers buffer tables : List ℕ) (index n : ℕ) (nq : n ≡ storeRefusal registers buffer tables index) where
   pub refusal-lt : n < 256
   unfolding storeRefusal
-  refusal-lt = subst (λ (k : ℕ). k < 256) (sym nq) (refusal-room (registersTaken registers) 1 _ (omega arith)
-      (refusal-room (bufferTaken buffer) 2 _ (omega arith)
-      (refusal-room (tablesTaken tables) 3 _ (omega arith)
-      (refusal-room (indexFits (wordsOf tables) index) 6 0 (omega arith) (omega arith)))))
+  refusal-lt = subst (λ (k : ℕ). k < 256) (sym nq) (machine-room (registersTaken registers) (bufferTaken buffer) (tablesTaken tables) _
+      (refusal-room (indexFits (wordsOf tables) index) 6 0 (omega arith) (omega arith)))
 
   pub lengths : n ≡ 0 → (length buffer ≡ 512) × (256 ≤ length tables) × (index < length (wordsOf tables))
   unfolding storeRefusal indexFits
   lengths z =
-      let one = passed (registersTaken registers) 1 _ (λ e. omega arith) (sym nq ∙ z) in
-      let two = passed (bufferTaken buffer) 2 _ (λ e. omega arith) (one .1) in
-      let three = passed (tablesTaken tables) 3 _ (λ e. omega arith) (two .1) in
-      let six = passed (indexFits (wordsOf tables) index) 6 _ (λ e. omega arith) (three .1) in (
-        buffer-told buffer (two .0),
-        omega (arith, tables-told tables (three .0)),
-        ltb-true index (length (wordsOf tables)) (six .0),
-      )
+      let told = handed registers buffer tables (refuseUnless (indexFits (wordsOf tables) index) 6 0) n nq z in
+      let six = passed (indexFits (wordsOf tables) index) 6 0 (λ e. omega arith) (told .later-passed) in
+      (told .buffer-long, told .tables-long, ltb-true index (length (wordsOf tables)) (six .0))
 
 -- the two ways through the call
 module _ (registers buffer tables : List ℕ) (p : Put) (n : ℕ) (nq : n ≡ storeRefusal registers buffer tables (p .index)) where

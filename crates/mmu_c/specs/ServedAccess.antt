@@ -2,7 +2,7 @@
 use Prim.Native.Nat.{ℕ}
 use mathlib.Core.Path.{_≡_}
 use mathlib.Core.List.{List}
-use Rattle.registers.specs.Refusals.{refuseUnless, byRefusal}
+use Rattle.registers.specs.Refusals.{machineRefusal, byRefusal}
 use Rattle.registers.specs.declared.Access.{Access}
 use Rattle.registers.specs.declared.Reply.{Reply}
 use Rattle.slots.specs.Buffer.{Buffer}
@@ -13,10 +13,8 @@ use Rattle.mmu_c.specs.Answers.{refusalAnswer, replyAnswer}
 
 unfoldable pub servedRefusal : (registers buffer tables : List ℕ) → Access → ℕ
 servedRefusal registers buffer tables a =
-    refuseUnless (registersTaken registers) 1
-    (refuseUnless (bufferTaken buffer) 2
-    (refuseUnless (tablesTaken tables) 3
-    (serviceRefusal (registersOf registers) (a .draw))))
+    machineRefusal (registersTaken registers) (bufferTaken buffer) (tablesTaken tables)
+    (serviceRefusal (registersOf registers) (a .draw))
 
 -- what an accepted access gives: the buffer's bytes are those of the buffer that it leaves
 pub record AccessGivesBytes (m : Machine) (a : Access) (reply : Reply) (buffer-after : List ℕ) : Type 0 where

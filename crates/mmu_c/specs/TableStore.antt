@@ -3,7 +3,7 @@ use Prim.Native.Nat.{ℕ}
 use mathlib.Core.Path.{_≡_}
 use mathlib.Core.List.{List, [], _∷_}
 use Rattle.wire.specs.Wire.{withElement}
-use Rattle.registers.specs.Refusals.{refuseUnless, byRefusal}
+use Rattle.registers.specs.Refusals.{refuseUnless, machineRefusal, byRefusal}
 use Rattle.store.specs.Sweep.{swept, emptied}
 use Rattle.store.specs.Rewrite.{Put, written}
 use Rattle.store.specs.TableStore.{indexFits}
@@ -13,10 +13,8 @@ use Rattle.mmu_c.specs.Answers.{refusalAnswer}
 
 unfoldable pub storeRefusal : (registers buffer tables : List ℕ) (index : ℕ) → ℕ
 storeRefusal registers buffer tables index =
-    refuseUnless (registersTaken registers) 1
-    (refuseUnless (bufferTaken buffer) 2
-    (refuseUnless (tablesTaken tables) 3
-    (refuseUnless (indexFits (wordsOf tables) index) 6 0)))
+    machineRefusal (registersTaken registers) (bufferTaken buffer) (tablesTaken tables)
+    (refuseUnless (indexFits (wordsOf tables) index) 6 0)
 
 -- the words with the one written
 unfoldable pub storedWords : (tables : List ℕ) → Put → List ℕ

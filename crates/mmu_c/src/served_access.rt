@@ -5,7 +5,7 @@ ghost use Prim.Native.Nat.{_≤_, _<_};
 ghost use lib.ListN.{length};
 ghost use Rattle.entry.specs.Address.{vpnOf};
 ghost use Rattle.registers.specs.Fields.{registersFit};
-ghost use Rattle.registers.specs.Refusals.{refuseUnless};
+ghost use Rattle.registers.specs.Refusals.{machineRefusal};
 ghost use Rattle.access.specs.Translation.{Accepted, translate};
 ghost use Rattle.mmu.specs.ServedAccess.{serviceRefusal};
 ghost use Rattle.table_bytes.specs.TableBytes.{wordsOf};
@@ -24,17 +24,16 @@ const MISS: u32 = 8;
 
 // The refusal once the registers are 44 bytes.
 fn served_refusal(r: Registers, buffer: &[u8], tables: &[u8], a: Access) -> u32
-    ensures { λ n. ⌜ n ≡ refuseUnless (registersFit r) 1 (refuseUnless (bufferTaken (now (buffer .entry))) 2
-        (refuseUnless (tablesTaken (now (tables .entry))) 3 (serviceRefusal r (a .draw)))) ⌝ }
+    ensures { λ n. ⌜ n ≡ machineRefusal (registersFit r) (bufferTaken (now (buffer .entry))) (tablesTaken (now (tables .entry)))
+        (serviceRefusal r (a .draw)) ⌝ }
 {
-    if !registers::registers_fit(r) {
-        return 1;
-    }
-    if !crate::buffer_taken(buffer) {
-        return 2;
-    }
-    if !crate::tables_taken(tables) {
-        return 3;
+    let early = registers::machine_refusal(
+        registers::registers_fit(r),
+        crate::buffer_taken(buffer),
+        crate::tables_taken(tables),
+    );
+    if early != 0 {
+        return early;
     }
     mmu::service_refusal(r, a.draw)
 }

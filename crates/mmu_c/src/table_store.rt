@@ -7,14 +7,13 @@ ghost use Rattle.mmu_c.specs.TableStore.{TableStoreGives, storeRefusal};
 fn store_refusal(registers: &[u8], buffer: &[u8], tables: &[u8], index: u32) -> u32
     ensures { λ n. ⌜ n ≡ storeRefusal (now (registers .entry)) (now (buffer .entry)) (now (tables .entry)) index ⌝ }
 {
-    if !crate::registers_taken(registers) {
-        return 1;
-    }
-    if !crate::buffer_taken(buffer) {
-        return 2;
-    }
-    if !crate::tables_taken(tables) {
-        return 3;
+    let early = registers::machine_refusal(
+        crate::registers_taken(registers),
+        crate::buffer_taken(buffer),
+        crate::tables_taken(tables),
+    );
+    if early != 0 {
+        return early;
     }
     let index_fits = (index as usize) < tables.len() / 4;
     if !index_fits {

@@ -3,9 +3,10 @@ use Prim.Native.Nat.{ℕ}
 use mathlib.Core.Path.{_≡_, refl, sym, ap, _∙_}
 use mathlib.Core.Logic.{_⊎_, inl, inr, ⊎-elim}
 use mathlib.Core.Bool.{Bool, true, false, cond, not}
+use native.Mathlib.Omega.{arith}
 use lib.Dec.{eqb}
 use borrow.Author.Tests.{not-true, not-false, eq-eqb, ne-eqb, eqb-true}
-use Rattle.registers.specs.Refusals.{refuseUnless, byRefusal}
+use Rattle.registers.specs.Refusals.{refuseUnless, machineRefusal, byRefusal}
 use Rattle.registers.specs.Replies.{refusalOf, refused, done}
 use Rattle.registers.specs.declared.Registers.{Registers}
 use Rattle.registers.specs.declared.Outcome.{Outcome}
@@ -26,6 +27,33 @@ pub passed : (test : Bool) (number later : ℕ) → (number ≡ 0 → ⊥) → r
 unfolding refuseUnless
 passed true number later ne h = (refl, h)
 passed false number later ne h = absurd (ne h)
+
+pub machine-passed : (registers buffer tables : Bool) (later : ℕ) → machineRefusal registers buffer tables later ≡ 0
+    → (registers ≡ true) × (buffer ≡ true) × (tables ≡ true) × (later ≡ 0)
+machine-passed registers buffer tables later h =
+    let one = passed registers 1 _ (λ e. omega arith) h in
+    let two = passed buffer 2 _ (λ e. omega arith) (one .1) in
+    let three = passed tables 3 _ (λ e. omega arith) (two .1) in
+    (one .0, two .0, three .0, three .1)
+
+-- the first three checks, which the code makes by tests t, u and v: one of them fails, or the later checks decide
+module _ (registers buffer tables t u v : Bool) (tq : t ≡ registers) (uq : u ≡ buffer) (vq : v ≡ tables)
+    (n : ℕ) (nq : n ≡ machineRefusal t u v 0) where
+  pub machine-refused : (later : ℕ) → (n ≡ 0 → ⊥) → n ≡ machineRefusal registers buffer tables later
+  unfolding refuseUnless
+  machine-refused later h = rw (← tq, ← uq, ← vq) (go t u v nq)
+    where
+      go : (a b c : Bool) → n ≡ machineRefusal a b c 0 → n ≡ machineRefusal a b c later
+      go true true true q = absurd (h q)
+      go true true false q = q
+      go true false c q = q
+      go false b c q = q
+
+  pub machine-later : (later m : ℕ) → n ≡ 0 → m ≡ later → m ≡ machineRefusal registers buffer tables later
+  unfolding refuseUnless
+  machine-later later m z q =
+      let told = machine-passed t u v 0 (sym nq ∙ z) in
+      q ∙ sym (rw (← tq, ← uq, ← vq, told .0, told .1, told .2))
 
 -- what a call gives where it is accepted, and where it is refused
 module _ {A : Type 0} (number n : ℕ) (nq : n ≡ number) (accepted refused x : A) where

@@ -7,6 +7,10 @@ use lib.Dec.{eqb, leb}
 unfoldable pub refuseUnless : (test : Bool) (number later : ℕ) → ℕ
 refuseUnless test number later = cond test later number
 
+-- numbers 1, 2 and 3, of every call that takes registers, buffer and tables: whether each of the three fits, then the later checks
+abbrev pub machineRefusal : (registers buffer tables : Bool) (later : ℕ) → ℕ
+machineRefusal registers buffer tables later = refuseUnless registers 1 (refuseUnless buffer 2 (refuseUnless tables 3 later))
+
 -- what a call gives by its refusal's number: one thing where it is accepted, another where it is refused
 unfoldable pub byRefusal : {A : Type 0} (number : ℕ) (accepted refused : A) → A
 byRefusal number accepted refused = cond (eqb number 0) accepted refused

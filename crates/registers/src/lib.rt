@@ -2,6 +2,7 @@
 ghost use mathlib.Core.Path.{_≡_};
 ghost use Prim.Native.Nat.{_<_};
 ghost use Rattle.registers.specs.Fields.{field, fitsAt, fromWords, put, registersFit, toWords, zeroRegisters};
+ghost use Rattle.registers.specs.Refusals.{machineRefusal};
 ghost use Rattle.registers.specs.Replies.{answered, done, refused};
 
 // Numbers 0 to 9 of document 01, then exception value * 2 + write bit.
@@ -142,6 +143,22 @@ pub fn zero_registers() -> Registers
     ensures { λ r. ⌜ r ≡ zeroRegisters ⌝ }
 {
     from_words([0; 11])
+}
+
+// The first three refusals of a call that takes registers, buffer and tables, by whether each fits; 0 where all do.
+pub fn machine_refusal(registers: bool, buffer: bool, tables: bool) -> u32
+    ensures { λ n. ⌜ n ≡ machineRefusal registers buffer tables 0 ⌝ }
+{
+    if !registers {
+        return 1;
+    }
+    if !buffer {
+        return 2;
+    }
+    if !tables {
+        return 3;
+    }
+    0
 }
 
 pub fn refused(r: Registers, number: u32) -> Reply

@@ -8,7 +8,7 @@ use lib.ListN.{length, set}
 use borrow.Author.Tests.{ltb-true}
 use Rattle.registers.specs.Fields.{registersFit}
 use Rattle.registers.specs.Replies.{refusalOf, refused, done}
-use Rattle.registers.proofs.RefusalLaws.{passed, when-accepted, when-refused, reply-refusal}
+use Rattle.registers.proofs.RefusalLaws.{passed, machine-passed, when-accepted, when-refused, reply-refusal}
 use Rattle.registers.specs.declared.Reply.{Reply}
 use Rattle.page_table.specs.Stretches.{tablesFit}
 use Rattle.page_table.proofs.Stretches.{fit-roots}
@@ -28,11 +28,9 @@ pub store-accepted : (m : Machine) (index : ℕ) → storeRefusal m index ≡ 0
     → (bufferFits (m .buffer) ≡ true) × (64 ≤ length (m .words)) × (index < length (m .words))
 unfolding storeRefusal indexFits
 store-accepted m index h =
-    let one = passed (registersFit (m .registers)) 1 _ (λ e. omega arith) h in
-    let two = passed (bufferFits (m .buffer)) 2 _ (λ e. omega arith) (one .1) in
-    let three = passed (tablesFit (m .words)) 3 _ (λ e. omega arith) (two .1) in
-    let six = passed (indexFits (m .words) index) 6 _ (λ e. omega arith) (three .1) in
-    (two .0, fit-roots (m .words) (three .0), ltb-true index (length (m .words)) (six .0))
+    let early = machine-passed (registersFit (m .registers)) (bufferFits (m .buffer)) (tablesFit (m .words)) _ h in
+    let six = passed (indexFits (m .words) index) 6 0 (λ e. omega arith) (early .3) in
+    (early .1, fit-roots (m .words) (early .2), ltb-true index (length (m .words)) (six .0))
 
 -- what every reply promises
 pub store-gives : (m : Machine) (p : Put) (reply : Reply) (after : Buffer) (words : List ℕ) → reply ≡ storeReply m p

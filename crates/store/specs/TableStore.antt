@@ -6,7 +6,7 @@ use mathlib.Core.List.{List, [], _∷_}
 use lib.ListN.{length}
 use lib.Dec.{ltb}
 use Rattle.registers.specs.Fields.{registersFit}
-use Rattle.registers.specs.Refusals.{refuseUnless, byRefusal}
+use Rattle.registers.specs.Refusals.{refuseUnless, machineRefusal, byRefusal}
 use Rattle.registers.specs.Replies.{refusalOf, refused, done}
 use Rattle.registers.specs.declared.Reply.{Reply}
 use Rattle.page_table.specs.Stretches.{tablesFit}
@@ -21,10 +21,8 @@ indexFits words index = ltb index (length words)
 
 unfoldable pub storeRefusal : Machine → (index : ℕ) → ℕ
 storeRefusal m index =
-    refuseUnless (registersFit (m .registers)) 1
-    (refuseUnless (bufferFits (m .buffer)) 2
-    (refuseUnless (tablesFit (m .words)) 3
-    (refuseUnless (indexFits (m .words) index) 6 0)))
+    machineRefusal (registersFit (m .registers)) (bufferFits (m .buffer)) (tablesFit (m .words))
+    (refuseUnless (indexFits (m .words) index) 6 0)
 
 -- the words with the one written
 unfoldable pub storedWords : Machine → Put → List ℕ

@@ -134,14 +134,13 @@ pub fn store_refusal(r: Registers, buffer: &[u64], words: &[u32], index: u32) ->
     ensures { λ n. ⌜ n ≡ storeRefusal
         (record { registers = r; buffer = Buffer.Wide (now (buffer .entry)); words = now (words .entry) }) index ⌝ }
 {
-    if !registers::registers_fit(r) {
-        return 1;
-    }
-    if !slots::buffer_fits(buffer) {
-        return 2;
-    }
-    if !page_table::tables_fit(words) {
-        return 3;
+    let early = registers::machine_refusal(
+        registers::registers_fit(r),
+        slots::buffer_fits(buffer),
+        page_table::tables_fit(words),
+    );
+    if early != 0 {
+        return early;
     }
     let index_fits = (index as usize) < words.len();
     if !index_fits {

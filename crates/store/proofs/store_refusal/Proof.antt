@@ -1,5 +1,5 @@
 use mathlib.Core.Path.{refl}
-use Rattle.registers.proofs.RefusalLaws.{refuse-here, refuse-later}
+use Rattle.registers.proofs.RefusalLaws.{refuse-here, refuse-later, machine-refused, machine-later}
 use Rattle.store.specs.TableStore.{indexFits, storeRefusal}
 use borrow.Author.Needs.{needs}
 use Rattle.store.proofs.store_refusal.Statement.{statement}
@@ -8,53 +8,41 @@ use Rattle.store.proofs.store_refusal.Tie as tie
 registers-fit-requires : tie.Need-registers-fit-requires
 registers-fit-requires c κs = search needs
 
-returns : tie.Need-returns
-unfolding storeRefusal
-returns c = refuse-here _ _ _ _ (c .before .registers-fit .ensures) (c .if1 .taken)
-
 buffer-fits-requires : tie.Need-buffer-fits-requires
 buffer-fits-requires c κs = search needs
-
-returns-2 : tie.Need-returns-2
-unfolding storeRefusal
-returns-2 c = refuse-later _ _ _ _ (c .before .before .before .registers-fit .ensures) _ (c .before .before .if1 .left)
-    (refuse-here _ _ _ _ (c .before .buffer-fits .ensures) (c .if2 .taken))
 
 tables-fit-requires : tie.Need-tables-fit-requires
 tables-fit-requires c κs = search needs
 
-returns-3 : tie.Need-returns-3
+machine-refusal-requires : tie.Need-machine-refusal-requires
+machine-refusal-requires c κs = search needs
+
+returns : tie.Need-returns
 unfolding storeRefusal
-returns-3 c = refuse-later _ _ _ _ (c .before .before .before .before .before .registers-fit .ensures) _
-    (c .before .before .before .before .if1 .left)
-    (refuse-later _ _ _ _ (c .before .before .before .buffer-fits .ensures) _ (c .before .before .if2 .left)
-    (refuse-here _ _ _ _ (c .before .tables-fit .ensures) (c .if3 .taken)))
+returns c =
+    machine-refused _ _ _ _ _ _ (c .before .before .before .before .registers-fit .ensures) (c .before .before .before .buffer-fits .ensures) (c .before .before .tables-fit .ensures) _ (c .before .machine-refusal .ensures) _
+    (c .if1 .taken)
 
-returns-4 : tie.Need-returns-4
+returns-2 : tie.Need-returns-2
 unfolding storeRefusal indexFits
-returns-4 c = refuse-later _ _ _ _ (c .before .before .before .before .before .before .registers-fit .ensures) _
-    (c .before .before .before .before .before .if1 .left)
-    (refuse-later _ _ _ _ (c .before .before .before .before .buffer-fits .ensures) _ (c .before .before .before .if2 .left)
-    (refuse-later _ _ _ _ (c .before .before .tables-fit .ensures) _ (c .before .if3 .left)
-    (refuse-here _ _ _ _ refl (c .if4 .taken))))
+returns-2 c =
+    machine-later _ _ _ _ _ _ (c .before .before .before .before .before .registers-fit .ensures) (c .before .before .before .before .buffer-fits .ensures) (c .before .before .before .tables-fit .ensures) _ (c .before .before .machine-refusal .ensures) _ _
+    (c .before .if1 .left) (refuse-here _ _ _ _ refl (c .if2 .taken))
 
-returns-5 : tie.Need-returns-5
+returns-3 : tie.Need-returns-3
 unfolding storeRefusal indexFits
-returns-5 c = refuse-later _ _ _ _ (c .before .before .before .before .before .before .registers-fit .ensures) _
-    (c .before .before .before .before .before .if1 .left)
-    (refuse-later _ _ _ _ (c .before .before .before .before .buffer-fits .ensures) _ (c .before .before .before .if2 .left)
-    (refuse-later _ _ _ _ (c .before .before .tables-fit .ensures) _ (c .before .if3 .left)
-    (refuse-later _ _ _ _ refl _ (c .if4 .left) refl)))
+returns-3 c =
+    machine-later _ _ _ _ _ _ (c .before .before .before .before .before .registers-fit .ensures) (c .before .before .before .before .buffer-fits .ensures) (c .before .before .before .tables-fit .ensures) _ (c .before .before .machine-refusal .ensures) _ _
+    (c .before .if1 .left) (refuse-later _ _ _ _ refl _ (c .if2 .left) refl)
 
 pub store-refusal-spec : {M : Type 1} → statement M
 store-refusal-spec =
     tie.close
     (tie.spec
     registers-fit-requires
-    returns
     buffer-fits-requires
-    returns-2
     tables-fit-requires
-    returns-3
-    returns-4
-    returns-5)
+    machine-refusal-requires
+    returns
+    returns-2
+    returns-3)
