@@ -26,13 +26,12 @@ says-at words global levels at l end e =
     let n : end % 4 ≡ levels = omega arith in
     rw (i, n)
 
--- the walk's answer is what the word says at which it ends
-descend-ends : (words : List ℕ) (vpn : ℕ) (global : Bool) (levels at : ℕ) → levels ≤ 2
+descend-says : (words : List ℕ) (vpn : ℕ) (global : Bool) (levels at : ℕ) → levels ≤ 2
     → descend words vpn global levels at ≡ saysAt words global (endOf words vpn levels at)
 unfolding descend endOf decided leadsOn leafAt
-descend-ends words vpn global zero at l = sym (says-at words global 0 at l _ (omega arith))
-descend-ends words vpn global (suc n) at l =
-    go (present w) (broken (length words) (stretchSize n) w) refl (descend-ends words vpn global n next (omega arith))
+descend-says words vpn global zero at l = sym (says-at words global 0 at l _ (omega arith))
+descend-says words vpn global (suc n) at l =
+    go (present w) (broken (length words) (stretchSize n) w) refl (descend-says words vpn global n next (omega arith))
   where
     w : ℕ
     w = getD words at 0
@@ -68,26 +67,32 @@ end-fits words vpn (suc n) at page l fits =
     go true below = below
     go false below = (omega arith, omega arith)
 
--- the end of a tree's walk with its word, as the code has it, gives the answer
-module _ (words : List ℕ) (vpn levels root end : ℕ) (page : vpn < 524288) (l : levels ≤ 2) (h : root ≤ 63)
-    (ends : end ≡ endRead words vpn levels root) where
-  fits : EndFits (endOf words vpn levels root)
-  fits = end-fits words vpn levels root page l (omega arith)
+-- an end with its word: at most two levels, and the walk's answer is what the word says at which it ends
+module _ (words : List ℕ) (vpn levels at end : ℕ) (page : vpn < 524288) (l : levels ≤ 2) (room : at < 67108864)
+    (ends : end ≡ endRead words vpn levels at) where
+  fits : EndFits (endOf words vpn levels at)
+  fits = end-fits words vpn levels at page l room
 
-  pub tree-fits : end % 4 ≤ 2
+  read-fits : end % 4 ≤ 2
   unfolding endRead
-  tree-fits = omega (arith, ends, fits .0)
+  read-fits = omega (arith, ends, fits .0)
 
-  tree-says : (global : Bool) → ending global end ≡ descend words vpn global levels root
+  pub descend-ends : (global : Bool) → descend words vpn global levels at ≡ ending global end
   unfolding ending endRead saysAt
-  tree-says global =
-      let e : ℕ = endOf words vpn levels root in
+  descend-ends global =
+      let e : ℕ = endOf words vpn levels at in
       let below : end % 4 ≡ e % 4 = omega (arith, ends) in
       let word : end / 4294967296 ≡ getD words (e / 4) 0 = omega (arith, ends, fits .1) in
       let index : end % 4294967296 / 4 ≡ e / 4 = omega (arith, ends, fits .1) in
-      rw (below, word, index) (sym (descend-ends words vpn global levels root l))
+      rw (below, word, index) (descend-says words vpn global levels at l)
+
+-- so of a tree's walk, as the code has it
+pub tree-fits : (words : List ℕ) (vpn levels root end : ℕ) → vpn < 524288 → levels ≤ 2 → root ≤ 63
+    → end ≡ endRead words vpn levels root → end % 4 ≤ 2
+tree-fits words vpn levels root end page l h ends = read-fits words vpn levels root end page l (omega arith) ends
 
 pub tree-ends : (words : List ℕ) (vpn root end : ℕ) → vpn < 524288 → root ≤ 63 → end ≡ endRead words vpn 2 root
     → (global : Bool) (r : Walk) → r ≡ ending global end → r ≡ walkTree words vpn global root
 unfolding walkTree
-tree-ends words vpn root end page h ends global r given = given ∙ tree-says words vpn 2 root end page (omega arith) h ends global
+tree-ends words vpn root end page h ends global r given =
+    given ∙ sym (descend-ends words vpn 2 root end page (omega arith) (omega arith) ends global)
