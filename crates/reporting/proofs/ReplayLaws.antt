@@ -3,7 +3,7 @@ use Prim.Native.Nat.{ℕ, _+_, _-_, _*_, _≤_, _<_}
 use mathlib.Core.Path.{_≡_, refl, sym, ap, subst, _∙_}
 use mathlib.Core.Bool.{Bool, true, false, cond, not, _&&_}
 use mathlib.Core.List.{List, [], _++_}
-use mathlib.Core.Logic.{inl, inr}
+use mathlib.Core.Logic.{_⊎_, inl, inr, ⊎-elim}
 use native.Mathlib.Omega.{arith}
 use lib.Dec.{eqb, ltb}
 use lib.IntN.{ℤ, pos}
@@ -20,6 +20,7 @@ use Rattle.trace.specs.Traces.{startMachine}
 use Rattle.report.specs.Ready.{Ready}
 use Rattle.report.specs.Tallies.{Tally, continued, tallyOf, CountGives, ReplayStarts}
 use Rattle.report.proofs.TallyLaws.{in-blocks}
+use Rattle.reporting.specs.Files.{Fills}
 use Rattle.reporting.specs.Blocks.{RECORDS, BYTES, BlockGives}
 use Rattle.reporting.specs.Replays.{Reached, MOST, goesOn, EndsAt, ReplayGives}
 use Rattle.reporting.specs.declared.Block.{Block}
@@ -27,11 +28,16 @@ use Rattle.reporting.specs.declared.Replayed.{Replayed}
 
 -- a block's run, counted
 pub block-gives : (m : Machine) (totals : List ℤ) (b : Block) (buffer : Buffer) (words links presents : List ℕ) (totals′ : List ℤ)
-    (input : List ℕ) (n : ℕ) → b .read ≤ length input → length input ≡ n → n ≡ BYTES
+    (input : List ℕ) (n : ℕ) → Fills (length input) (record { length = b .read; failed = b .failed; ended = b .ended })
+    → length input ≡ n → n ≡ BYTES
     → CountGives (tallyOf m totals (commandsOf (take (b .read) input))) (record { registers = b .registers; fits = b .fits }) buffer words
     links presents totals′
     → BlockGives m totals b buffer words links presents totals′ input
-block-gives m totals b buffer words links presents totals′ input n l e q g = record { read-fits = omega (arith, l, e, q); counted = g }
+block-gives m totals b buffer words links presents totals′ input n f e q g = record {
+  read-fits = let l = f .fits in omega (arith, l, e, q);
+  why-read = ⊎-elim (λ h. inl (h ∙ e ∙ q)) (λ h. inr h) (f .why);
+  counted = g;
+}
 
 -- the runs of a block after which every total is within the limit
 pub ready-again : (words after links presents : List ℕ) (totals totals′ : List ℤ) (t : Tally) (registers : Registers) (fits : Bool)
@@ -70,16 +76,22 @@ goes-on b blocks h =
     )
 
 -- where it does not, the block is the last one for a reason
-pub ends : (b : Block) (blocks : ℕ) → b .read ≤ BYTES → blocks ≤ MOST → goesOn b blocks ≡ false → EndsAt b blocks
+pub ends : (b : Block) (blocks : ℕ) → b .read ≤ BYTES → (b .read ≡ BYTES) ⊎ ((b .failed ≡ true) ⊎ (b .ended ≡ true)) → blocks ≤ MOST
+    → goesOn b blocks ≡ false → EndsAt b blocks
 unfolding goesOn
-ends b blocks l k h = go (b .fits) (b .failed) (eqb (b .read) BYTES) (ltb blocks MOST) refl refl refl refl h
+ends b blocks l y k h = go (b .fits) (b .failed) (eqb (b .read) BYTES) (ltb blocks MOST) refl refl refl refl h
   where
+    short : b .failed ≡ false → (b .read ≡ BYTES → ⊥) → (b .read ≡ BYTES) ⊎ ((b .failed ≡ true) ⊎ (b .ended ≡ true))
+        → (b .read < BYTES) × (b .ended ≡ true)
+    short q ne (inl e) = absurd (ne e)
+    short q ne (inr (inl e)) = absurd (clash e q)
+    short q ne (inr (inr e)) = (omega (arith, ne, l), e)
+
     go : (fits failed full less : Bool) → b .fits ≡ fits → b .failed ≡ failed → eqb (b .read) BYTES ≡ full → ltb blocks MOST ≡ less
         → ((fits && not failed) && full) && less ≡ false → EndsAt b blocks
     go false failed full less p q r s e = inl p
     go true true full less p q r s e = inr (inl q)
-    go true false false less p q r s e =
-        let ne : (b .read ≡ BYTES → ⊥) = eqb-false (b .read) BYTES r in inr (inr (inl (omega (arith, ne, l))))
+    go true false false less p q r s e = inr (inr (inl (short q (eqb-false (b .read) BYTES r) y)))
     go true false true true p q r s e = absurd (clash refl e)
     go true false true false p q r s e =
         let m : MOST ≤ blocks = ltb-false blocks MOST s in inr (inr (inr (omega (arith, m, k))))
@@ -126,7 +138,7 @@ module _ (m : Machine) (totals : List ℤ) (b : Block) (blocks : ℕ) (buffer : 
   -- the last one
   pub last-block : blocks ≤ MOST → goesOn b blocks ≡ false
       → ReplayGives m totals (record { last = b; blocks = blocks }) buffer words links presents totals′ input
-  last-block k e = record { reached = h; why = ends b blocks (h .block .read-fits) k e }
+  last-block k e = record { reached = h; why = ends b blocks (h .block .read-fits) (h .block .why-read) k e }
 
 -- a file from the start
 pub from-start : (lent : Buffer) (registers : Registers) (buffer : Buffer) (words links presents : List ℕ) (totals : List ℤ)
@@ -136,6 +148,7 @@ pub from-start : (lent : Buffer) (registers : Registers) (buffer : Buffer) (word
     → ReplayGives (startMachine lent) (replicate 882 (pos 0)) p buffer₁ words₁ links₁ presents₁ totals₁ input₁
 from-start lent registers buffer words links presents totals s p buffer₁ words₁ links₁ presents₁ totals₁ input₁ g =
     subst (λ (m : Machine). ReplayGives m (replicate 882 (pos 0)) p buffer₁ words₁ links₁ presents₁ totals₁ input₁) (s .machine-is)
-    (subst (λ (t : List ℤ). ReplayGives (record { registers = registers; buffer = buffer; words = words }) t p buffer₁ words₁ links₁ presents₁
+    (subst (λ (t : List ℤ). ReplayGives (record { registers = registers; buffer = buffer; words = words }) t p buffer₁ words₁ links₁
+    presents₁
     totals₁ input₁)
     (s .totals-are) g)

@@ -1,3 +1,4 @@
+pub mod Files
 pub mod Blocks
 pub mod Replays
 pub mod Endings

@@ -35,11 +35,13 @@ MOST = 18446744073709551615
 unfoldable pub goesOn : Block → (blocks : ℕ) → Bool
 goesOn b blocks = ((b .fits && not (b .failed)) && eqb (b .read) BYTES) && ltb blocks MOST
 
--- why no block follows one: a total has passed the limit, a read failed, the block is not full, or it is the last of the most blocks
+-- why no block follows one: a total has passed the limit, a read failed, the file ended before the block was full, or it is the last of
+-- the most blocks
 abbrev pub EndsAt : Block → (blocks : ℕ) → Type 0
-EndsAt b blocks = (b .fits ≡ false) ⊎ ((b .failed ≡ true) ⊎ ((b .read < BYTES) ⊎ (blocks ≡ MOST)))
+EndsAt b blocks = (b .fits ≡ false) ⊎ ((b .failed ≡ true) ⊎ (((b .read < BYTES) × (b .ended ≡ true)) ⊎ (blocks ≡ MOST)))
 
--- what a replay promises of the block that it answers: it is one of the file, the last one for a reason, and the blocks are counted
+-- What a replay promises of the block that it answers: it is one of the file, the last one for a reason, and the blocks are counted. Which
+-- bytes stood in the blocks before it, only a run shows.
 pub record ReplayGives (m : Machine) (totals : List ℤ) (p : Replayed) (buffer-after : Buffer) (words-after links-after presents-after :
     List ℕ) (totals-after : List ℤ) (input-after : List ℕ) : Type 0 where
   pub reached : Reached m totals (p .last) (p .blocks) buffer-after words-after links-after presents-after totals-after input-after

@@ -34,5 +34,6 @@ pub fn count_block(
         fits: counted.fits,
         read,
         failed: got.failed,
+        ended: got.ended,
     }
 }

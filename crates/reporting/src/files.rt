@@ -1,44 +1,51 @@
 // Reading a file, as much as a run holds.
 ghost use mathlib.Core.Path.{_≡_};
-ghost use Prim.Native.Nat.{_≤_};
+ghost use Prim.Native.Nat.{_≤_, _<_};
+ghost use mathlib.Core.Bool.{false, _||_};
 ghost use lib.ListN.{length};
+ghost use Rattle.reporting.specs.Files.{Fills};
 
-// How many bytes were read, and whether a read failed.
+// How many bytes were read, whether a read failed, and whether one answered that the file has ended.
 pub struct Read {
     pub length: usize,
     pub failed: bool,
+    pub ended: bool,
 }
 
-fn after_read(length: usize, failed: bool) -> Read
-    ensures { λ r. ⌜ (r .length ≡ length) × (r .failed ≡ failed) ⌝ }
+fn after_read(length: usize, failed: bool, ended: bool) -> Read
+    ensures { λ r. ⌜ r ≡ record { length = length; failed = failed; ended = ended } ⌝ }
 {
-    Read { length, failed }
+    Read {
+        length,
+        failed,
+        ended,
+    }
 }
 
 // Reads once.
 fn read_some(fd: i32, part: &mut [u8]) -> Read
-    ensures { λ r. ⌜ r .length ≤ length (now (part .exit)) ⌝ }
+    ensures { λ r. ⌜ (r .length ≤ length (now (part .exit))) × ((r .failed || r .ended) ≡ false → 0 < r .length) ⌝ }
 {
     let got = libc::read(fd, part);
     if got < 0 {
-        return after_read(0, true);
+        return after_read(0, true, false);
     }
     let n = io::count(got, part);
-    after_read(n, false)
+    after_read(n, false, n == 0)
 }
 
 // Reads until the run is full, the file ends or a read fails.
 pub fn fill(fd: i32, run: &mut [u8]) -> Read
-    ensures { λ r. ⌜ r .length ≤ length (now (run .exit)) ⌝ }
+    ensures { λ r. ⌜ Fills (length (now (run .exit))) r ⌝ }
 {
     let n = run.len();
     let mut done: usize = 0;
     while done < n {
         let more = read_some(fd, &mut run[done..n]);
-        if more.failed | (more.length == 0) {
-            return after_read(done, more.failed);
+        if more.failed | more.ended {
+            return after_read(done, more.failed, more.ended);
         }
         done += more.length;
     }
-    after_read(done, false)
+    after_read(done, false, false)
 }

@@ -6,7 +6,10 @@ ghost use Rattle.line.specs.Text.{TextPut};
 ghost use Rattle.reporting.specs.Blocks.{RunsFit};
 ghost use Rattle.reporting.specs.Endings.{endingOf, endingText};
 ghost use Rattle.reporting.specs.Reports.{FileGives, FilePut, ReportFits};
+use crate::Block;
 use crate::Ending;
+use crate::Filed;
+use crate::Replayed;
 use crate::replays::count_file;
 
 fn ending_of(fits: bool, failed: bool) -> Ending
@@ -45,22 +48,23 @@ fn put_counted(
     totals: &mut [i64],
     input: &mut [u8],
     out: &mut [u8],
-) -> usize
+) -> Filed
     requires { ⌜ RunsFit (now buffer) (now words) (now links) (now presents) (now totals) (now input) × (length (now out) ≡ 20480) ⌝ }
-    ensures lines { λ n. ⌜ FileGives number n (now (words .exit)) (now (input .exit)) (now (out .exit)) ⌝ }
-    ensures room { λ n. ⌜ n ≤ length (now (out .exit)) ⌝ }
+    ensures lines { λ f. ⌜ FileGives number f (now (words .exit)) (now (input .exit)) (now (out .exit)) ⌝ }
+    ensures room { λ f. ⌜ f .length ≤ length (now (out .exit)) ⌝ }
 {
-    let counted = count_file(fd, buffer, words, links, presents, totals, input);
-    let last = counted.last;
+    let replayed = count_file(fd, buffer, words, links, presents, totals, input);
+    let last = replayed.last;
     let ending = ending_of(last.fits, last.failed);
-    put_ending(out, number, totals, ending)
+    let length = put_ending(out, number, totals, ending);
+    Filed { replayed, length }
 }
 
 // The same, with a buffer, an index of the tables and totals of the file's own.
-fn put_open(fd: i32, number: u64, words: &mut [u32], input: &mut [u8], out: &mut [u8]) -> usize
+fn put_open(fd: i32, number: u64, words: &mut [u32], input: &mut [u8], out: &mut [u8]) -> Filed
     requires { ⌜ ReportFits (now words) (now input) (now out) ⌝ }
-    ensures lines { λ n. ⌜ FileGives number n (now (words .exit)) (now (input .exit)) (now (out .exit)) ⌝ }
-    ensures room { λ n. ⌜ n ≤ length (now (out .exit)) ⌝ }
+    ensures lines { λ f. ⌜ FileGives number f (now (words .exit)) (now (input .exit)) (now (out .exit)) ⌝ }
+    ensures room { λ f. ⌜ f .length ≤ length (now (out .exit)) ⌝ }
 {
     let mut buffer = [0u64; 64];
     let mut links = [0u32; 16];
@@ -79,6 +83,22 @@ fn put_open(fd: i32, number: u64, words: &mut [u32], input: &mut [u8], out: &mut
     )
 }
 
+// A file that was not opened, with so many bytes of lines: its replay has no block.
+pub fn unopened(length: usize) -> Filed
+    ensures { λ f. ⌜ (f .replayed .blocks ≡ 0) × (f .length ≡ length) ⌝ }
+{
+    let registers = registers::zero_registers();
+    let last = Block {
+        registers,
+        fits: true,
+        read: 0,
+        failed: true,
+        ended: false,
+    };
+    let replayed = Replayed { last, blocks: 0 };
+    Filed { replayed, length }
+}
+
 // Opens a file, and puts its lines; one that can't be opened is unread.
 pub fn put_lines(
     path: &[u8],
@@ -86,16 +106,17 @@ pub fn put_lines(
     words: &mut [u32],
     input: &mut [u8],
     out: &mut [u8],
-) -> usize
+) -> Filed
     requires { ⌜ ReportFits (now words) (now input) (now out) ⌝ }
-    ensures lines { λ n. ⌜ FilePut number n (now (words .exit)) (now (input .exit)) (now (out .exit)) ⌝ }
-    ensures room { λ n. ⌜ n ≤ length (now (out .exit)) ⌝ }
+    ensures lines { λ f. ⌜ FilePut number f (now (words .exit)) (now (input .exit)) (now (out .exit)) ⌝ }
+    ensures room { λ f. ⌜ f .length ≤ length (now (out .exit)) ⌝ }
 {
     let fd = os::open_read(path);
     if fd < 0 {
-        return rows::put_unread(out, number);
+        let n = rows::put_unread(out, number);
+        return unopened(n);
     }
-    let n = put_open(fd, number, words, input, out);
+    let file = put_open(fd, number, words, input, out);
     libc::close(fd);
-    n
+    file
 }

@@ -24,7 +24,7 @@ use Rattle.tracing.proofs.BlockLaws.{records-of}
 pub first-block : (m : Machine) (b : Block) (buffer : Buffer) (words input out : List ℕ)
     → BlockGives m 0 b buffer words input out → Reached m b buffer words input out
 unfolding commandsOf commandsFrom recordCount machineAfter
-first-block m b buffer words input out g = record { before = []; blocks = 0; full = refl; block = g }
+first-block m b buffer words input out g = record { before = []; count = 0; full = refl; block = g }
 
 -- where it goes on, the block is full and the number within the limit
 pub goes-on : (b : Block) → goesOn b ≡ true → (b .read ≡ BYTES) × (b .number ≤ LAST)
@@ -62,14 +62,14 @@ module _ (m : Machine) (b : Block) (buffer : Buffer) (words input out : List ℕ
   next-block e l b′ buffer′ words′ input′ out′ g =
       let f = full-block (b .read) input e l in
       let here : List ℕ = take (b .read) input in
-      let counted : length (h .before) ≡ 8 * (RECORDS * h .blocks) = omega (arith, h .full) in
+      let counted : length (h .before) ≡ 8 * (RECORDS * h .count) = omega (arith, h .full) in
       let left : record { registers = b .registers; buffer = buffer; words = words } ≡ machineAfter m (commandsOf (h .before ++ here)) =
-      h .block .machine-is ∙ sym (in-blocks m 0 (RECORDS * h .blocks) (h .before) here counted .1) in
-      let next : b .number ≡ RECORDS * (h .blocks + 1) =
+      h .block .machine-is ∙ sym (in-blocks m 0 (RECORDS * h .count) (h .before) here counted .1) in
+      let next : b .number ≡ RECORDS * (h .count + 1) =
       let n = h .block .number-is in omega (arith, n, f .1) in
       record {
         before = h .before ++ here;
-        blocks = h .blocks + 1;
+        count = h .count + 1;
         full = length-append (h .before) here ∙ omega (arith, h .full, f .0);
         block =
             subst (λ (k : ℕ). BlockGives (machineAfter m (commandsOf (h .before ++ here))) k b′ buffer′ words′ input′ out′) next

@@ -1,5 +1,5 @@
 -- A block of a trace's input.
-use Prim.Native.Nat.{ℕ, _+_, _≤_}
+use Prim.Native.Nat.{ℕ, _+_, _*_, _≤_}
 use mathlib.Core.Path.{_≡_}
 use mathlib.Core.List.{List}
 use lib.ListN.{length, take}
@@ -15,7 +15,7 @@ abbrev pub RECORDS : ℕ
 RECORDS = 1024
 
 abbrev pub BYTES : ℕ
-BYTES = 8192
+BYTES = 8 * RECORDS
 
 -- no block begins behind this record number
 abbrev pub LAST : ℕ
@@ -26,8 +26,9 @@ abbrev pub LinesFit : (input out : List ℕ) → Type 0
 LinesFit input out = (length input ≡ BYTES) × (length out ≡ 50176)
 
 -- What a block promises: registers, runs and the next record's number are those after the records of the bytes that were read, from the
--- machine and the number that it was handed; the output begins with these records' lines, and the answer has their length. Which bytes
--- are read, and what becomes of the lines, no contract says.
+-- machine and the number that it was handed; the output begins with these records' lines, and the answer has their length. Which bytes a
+-- read gave, and whether the lines reached standard output, only a run shows. Of the output behind the lines and of the run behind the bytes
+-- that were read nothing is promised.
 pub record BlockGives (m : Machine) (number : ℕ) (b : Block) (buffer-after : Buffer) (words-after input-after out-after : List ℕ) : Type 0
   where
     pub read-fits : b .read ≤ BYTES

@@ -17,9 +17,9 @@ use Rattle.tracing.specs.declared.Block.{Block}
 -- first record.
 pub record Reached (m : Machine) (b : Block) (buffer-after : Buffer) (words-after input-after out-after : List ℕ) : Type 0 where
   pub before : List ℕ
-  pub blocks : ℕ
-  pub full : length before ≡ BYTES * blocks
-  pub block : BlockGives (machineAfter m (commandsOf before)) (RECORDS * blocks) b buffer-after words-after input-after out-after
+  pub count : ℕ
+  pub full : length before ≡ BYTES * count
+  pub block : BlockGives (machineAfter m (commandsOf before)) (RECORDS * count) b buffer-after words-after input-after out-after
 
 -- a block is followed by another: its lines could be written, it is full, and the record number is within the limit
 unfoldable pub goesOn : Block → Bool
@@ -29,7 +29,8 @@ goesOn b = (b .written && eqb (b .read) BYTES) && leb (b .number) LAST
 abbrev pub EndsAt : Block → Type 0
 EndsAt b = (b .read < BYTES) ⊎ ((b .written ≡ false) ⊎ (LAST < b .number))
 
--- what a trace promises of the block that it answers: it is one of the trace, and the last one for a reason
+-- What a trace promises of the block that it answers: it is one of the trace, and the last one for a reason. Which bytes stood in the blocks
+-- before it, only a run shows.
 pub record TraceGives (m : Machine) (b : Block) (buffer-after : Buffer) (words-after input-after out-after : List ℕ) : Type 0 where
   pub reached : Reached m b buffer-after words-after input-after out-after
   pub why : EndsAt b

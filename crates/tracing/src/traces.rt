@@ -24,7 +24,7 @@ fn goes_on(b: Block) -> bool
 
 // Runs one block after the other, and answers the last one: it is not full, or its lines could not be written. A proved loop has to end,
 // and nothing says that the input does: a block whose record number has passed the limit is the last one too.
-fn run_blocks(
+pub fn run_blocks(
     r: Registers,
     buffer: &mut [u64],
     words: &mut [u32],

@@ -12,7 +12,7 @@ slice-reshare-prefix-run : tie.Need-slice-reshare-prefix-run
 slice-reshare-prefix-run c = search needs
 
 slice-aggregate-run : tie.Need-slice-aggregate-run
-slice-aggregate-run c = sym (length-take-le _ _ (c .before .before .before .before .before .before .before .before .fill .ensures))
+slice-aggregate-run c = sym (length-take-le _ _ (c .before .before .before .before .before .before .before .before .fill .ensures .fits))
 
 run-requires : tie.Need-run-requires
 run-requires c κs = search needs

@@ -1,6 +1,6 @@
 use mathlib.Core.Path.{_∙_}
-use Rattle.reporting.proofs.ReportLaws.{file-gives}
 use borrow.Author.Needs.{needs}
+use Rattle.reporting.proofs.ReportLaws.{file-gives}
 use Rattle.reporting.proofs.lines.put_counted.Statement.{statement}
 use Rattle.reporting.proofs.lines.put_counted.Tie as tie
 
@@ -8,7 +8,7 @@ count-file-requires : tie.Need-count-file-requires
 count-file-requires c κs = search needs
 
 ending-of-requires : tie.Need-ending-of-requires
-ending-of-requires c κs = search needs
+ending-of-requires c κs = tt
 
 put-ending-requires : tie.Need-put-ending-requires
 put-ending-requires c κs = (
@@ -16,8 +16,7 @@ put-ending-requires c κs = (
       .before .before .before .before .before .before .before .before .before .before .before .before .before .before .before .pre .1,
   c
       .before .before .before .before .before .before .totals .given ∙ c .before .before .before .before .before .before .before .before
-      .before .before .before .before .before .before .before .before .before .before .before .before .before .before .before .before
-      .before
+      .before .before .before .before .before .before .before .before .before .before .before .before .before .before .before .before .before
       .before .before .before .pre .0 .4,
 )
 
@@ -45,11 +44,9 @@ same-length-7 c = search needs
 returns : tie.Need-returns
 returns c = (
   file-gives _ _ _ _ _ _ _ _ _ _ _ _ _ (c .before .before .before .before .before .before .before .before .before .before .before
-      .before .before .before .before .before .before .before .before .before .before .before .before .before .before .before .before
-      .before
+      .before .before .before .before .before .before .before .before .before .before .before .before .before .before .before .before .before
       .before .before .before .pre .0 .0) (c .before .before .before .before .before .before .before .before .before .before .before .before
-      .before .before .before .before .before .before .count-file .ensures) (c .before .before .before .before .before .ending-of .ensures)
-      (c
+      .before .before .before .before .before .before .count-file .ensures) (c .before .before .before .before .before .ending-of .ensures) (c
       .before .before .put-ending .ensures .0),
   c .before .before .put-ending .ensures .1,
 )

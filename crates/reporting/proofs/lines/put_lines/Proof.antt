@@ -1,5 +1,6 @@
-use Rattle.reporting.proofs.ReportLaws.{opened, unopened}
+use native.Mathlib.Omega.{arith}
 use borrow.Author.Needs.{needs}
+use Rattle.reporting.proofs.ReportLaws.{opened, not-opened}
 use Rattle.reporting.proofs.lines.put_lines.Statement.{statement}
 use Rattle.reporting.proofs.lines.put_lines.Tie as tie
 
@@ -9,11 +10,18 @@ open-read-requires c κs = search needs
 put-unread-requires : tie.Need-put-unread-requires
 put-unread-requires c κs = search needs
 
+unopened-requires : tie.Need-unopened-requires
+unopened-requires c κs = search needs
+
 same-length : tie.Need-same-length
 same-length c = search needs
 
 returns : tie.Need-returns
-returns c = (unopened _ _ _ _ _ _ (c .before .before .put-unread .ensures .0), c .before .before .put-unread .ensures .1)
+returns c = (
+  not-opened _ _ _ _ _ _ _ (c .unopened .ensures) (c .before .before .before .put-unread .ensures .0),
+  let e = c .unopened
+      .ensures .1 in let l = c .before .before .before .put-unread .ensures .1 in omega (arith, e, l),
+)
 
 put-open-requires : tie.Need-put-open-requires
 put-open-requires c κs = search needs
@@ -43,6 +51,7 @@ put-lines-spec =
     (tie.spec
     open-read-requires
     put-unread-requires
+    unopened-requires
     same-length
     returns
     put-open-requires

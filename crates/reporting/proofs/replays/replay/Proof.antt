@@ -53,7 +53,8 @@ goes-on-requires c κs = tt
 count-block-requires-2 : tie.Need-count-block-requires-2 Inv-loop μ-loop
 count-block-requires-2 c κs = (
   c .before .before .before .before .before .before .before .before .before .loop .inv .1 (goes-on (c .before
-      .before .before .before .before .before .before .before .before .loop .last) (c .before .before .before .before .before .before .before
+      .before .before .before .before .before .before .before .before .loop .last) (c .before .before .before .before .before .before
+      .before
       .before .before .loop .blocks) (sym (c .before .before .before .before .before .before .before .before .goes-on .ensures) ∙ c .before
       .before .before .before .before .before .before .if1 .taken) .0),
   c .before .before .before .before .before .before .before .before
@@ -88,7 +89,8 @@ loop-again c = let now = c .before .before .before .before .before .before .befo
       λ m t h. next-block m t _ _ _ _ _ _ _ _ (now .inv .0 m t h) on (now .inv .7) _ _ _ _ _ _ _ (c .before .before .before .before .before
           .before .before .before .before .before .before .count-block2 .ensures),
       λ f. ready-again _ _ _ _ _ _ _ _ _ _ (now .inv .1 (on .0)) (c
-          .before .before .totals2 .given) (c .before .before .before .before .before .before .before .before .words2 .given) f _ _ (c .before
+          .before .before .totals2 .given) (c .before .before .before .before .before .before .before .before .words2 .given) f _ _ (c
+          .before
           .before .before .before .before .before .before .before .before .before .before .count-block2 .ensures .counted),
       c .before .before
           .before .before .before .before .before .before .before .before .buffer2 .given ∙ now .inv .2,

@@ -1,59 +1,57 @@
 use Prim.Native.Nat.{_-_, _≤_}
 use mathlib.Core.Path.{_≡_, refl, _∙_}
-use mathlib.Core.Logic.{_⊎_, inl, inr}
 use native.Mathlib.Omega.{arith}
 use lib.ListN.{length}
-use Rattle.reporting.specs.Reports.{LastFile}
-use Rattle.reporting.proofs.ReportLaws.{goes-on, none-left, next-file}
+use Rattle.reporting.proofs.ReportLaws.{Going, first-file, more-files, reported, goes-on}
 use Rattle.reporting.proofs.reports.run.Statement.{statement}
 use Rattle.reporting.proofs.reports.run.Tie as tie
 
 abbrev Inv-loop : tie.InvT-loop
-Inv-loop count path₀ words₀ input₀ out₀ next₀ n₀ written₀ path words input out next n written =
-    ((next ≡ 1) ⊎ LastFile count next n words input out) × (1 ≤ next)
+Inv-loop count path₀ words₀ input₀ out₀ next₀ file₀ written₀ path words input out next file written =
+    Going count next file written words input out × (1 ≤ next)
     × (length path ≡ length path₀) × (length words ≡ length words₀) × (length input ≡ length input₀) × (length out ≡ length out₀)
 
 abbrev μ-loop : tie.MeasureT-loop
-μ-loop count path₀ words₀ input₀ out₀ next₀ n₀ written₀ path words input out next n written =
+μ-loop count path₀ words₀ input₀ out₀ next₀ file₀ written₀ path words input out next file written =
     count - next
 
-loop-holds : tie.Need-loop-holds Inv-loop μ-loop
-loop-holds c = (inl refl, omega arith, refl, refl, refl, refl)
+unopened-requires : tie.Need-unopened-requires Inv-loop μ-loop
+unopened-requires c κs = tt
 
-sub-write-lines : tie.Need-sub-write-lines Inv-loop μ-loop
-sub-write-lines c = omega (arith, c .before .loop .inv .1)
+loop-holds : tie.Need-loop-holds Inv-loop μ-loop
+loop-holds c = (first-file _ _ _ _ _ (c .unopened .ensures), omega arith, refl, refl, refl, refl)
 
 write-lines-requires : tie.Need-write-lines-requires Inv-loop μ-loop
 write-lines-requires c κs = let v = c .before .before .before .before .before .loop .inv in let p = c .before .before .before .before
-    .before .before .before .before .before .before .pre in (v .3 ∙ p .0, v .4 ∙ p .1, v .5 ∙ p .2)
+    .before .before .before .before .before .before .before .pre in (v .1, (v .3 ∙ p .0, v .4 ∙ p .1, v .5 ∙ p .2))
 
 add-next : tie.Need-add-next Inv-loop μ-loop
 add-next c = let k = goes-on (c .before .before .before .before .before .before .before .before .before .before .before .before .before
-    .before .loop .written) (c .before .before .before .before .before .before .before .before .before .before .before .before .before
-    .before .loop .next) _ (c .before .before .before .before .before .before .before .before .before .before .before .before .before
-    .loop-test .taken) in omega (arith, k)
+    .before .before .loop .written) (c .before .before .before .before .before .before .before .before .before .before .before .before
+    .before .before .before .loop .next) _ (c .before .before .before .before .before .before .before .before .before .before .before
+    .before .before .before .loop-test .taken) in omega (arith, k)
 
 loop-less : tie.Need-loop-less Inv-loop μ-loop
 loop-less c = let k = goes-on (c .before .before .before .before .before .before .before .before .before .before .before .before .before
-    .before .loop .written) (c .before .before .before .before .before .before .before .before .before .before .before .before .before
-    .before .loop .next) _ (c .before .before .before .before .before .before .before .before .before .before .before .before .before
-    .loop-test .taken) in omega (arith, k)
+    .before .before .loop .written) (c .before .before .before .before .before .before .before .before .before .before .before .before
+    .before .before .before .loop .next) _ (c .before .before .before .before .before .before .before .before .before .before .before
+    .before .before .before .loop-test .taken) in omega (arith, k)
 
 loop-again : tie.Need-loop-again Inv-loop μ-loop
 loop-again c = let v = c .before .before .before .before .before .before .before .before .before .before .before .before .before .before
-    .loop .inv in (
-      inr (next-file _ _ _ _ _ _ _ (v .1) (goes-on (c .before .before .before .before .before .before .before .before .before
-          .before .before .before .before .before .loop .written) (c .before .before .before .before .before .before .before .before .before
-          .before .before .before .before .before .loop .next) _ (c .before .before .before .before .before .before .before .before .before
-          .before .before .before .before .loop-test .taken)) refl (c .before .before .before .before .before .before .before .before
-          .write-lines
-          .ensures)),
+    .before .loop .inv in (
+      more-files _ _ _ _ _ _ _ (v .1) (goes-on (c .before .before .before .before .before .before .before .before
+          .before .before .before .before .before .before .before .loop .written) (c .before .before .before .before .before .before .before
+          .before .before .before .before .before .before .before .before .loop .next) _ (c .before .before .before .before .before .before
+          .before .before .before .before .before .before .before .before .loop-test .taken)) (c .before .before .before .before .before .before
+          .before .before .before .write-lines .ensures),
       omega (arith, v .1),
-      c .before .before .before .before .before .before .before .path .given ∙ v .2,
-      c .before .before
-          .before .before .before .words .given ∙ v .3,
-      c .before .before .before .input .given ∙ v .4,
-      c .before .out .given ∙ v .5,
+      c .before .before .before .before .before .before .before .before
+          .path .given ∙ v .2,
+      c .before .before .before .before .before .before .words .given ∙ v .3,
+      c .before .before .before .before .input
+          .given ∙ v .4,
+      c .before .before .out .given ∙ v .5,
     )
 
 same-length : tie.Need-same-length Inv-loop μ-loop
@@ -69,11 +67,7 @@ same-length-4 : tie.Need-same-length-4 Inv-loop μ-loop
 same-length-4 c = c .before .loop .inv .5
 
 returns : tie.Need-returns Inv-loop μ-loop
-returns c = record {
-  last-file = c .before .loop .inv .0;
-  none-left = none-left (c .before .loop .written) (c .before .loop .next) _ (c
-      .loop-test .left);
-}
+returns c = reported _ _ _ _ _ _ _ (c .before .loop .inv .0) (c .loop-test .left)
 
 pub run-spec : {M : Type 1} → statement M
 run-spec =
@@ -81,8 +75,8 @@ run-spec =
     (tie.spec
     Inv-loop
     μ-loop
+    unopened-requires
     loop-holds
-    sub-write-lines
     write-lines-requires
     add-next
     loop-less

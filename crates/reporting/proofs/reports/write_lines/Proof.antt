@@ -13,6 +13,9 @@ slice-reshare-prefix-put-lines c = search needs
 slice-aggregate-put-lines : tie.Need-slice-aggregate-put-lines
 slice-aggregate-put-lines c = search needs
 
+sub-put-lines : tie.Need-sub-put-lines
+sub-put-lines c = search needs
+
 put-lines-requires : tie.Need-put-lines-requires
 put-lines-requires c κs = search needs
 
@@ -38,7 +41,7 @@ same-length-4 : tie.Need-same-length-4
 same-length-4 c = search needs
 
 returns : tie.Need-returns
-returns c = search needs
+returns c = c .before .before .before .before .before .before .before .before .put-lines .ensures .0
 
 pub write-lines-spec : {M : Type 1} → statement M
 write-lines-spec =
@@ -47,6 +50,7 @@ write-lines-spec =
     arg-requires
     slice-reshare-prefix-put-lines
     slice-aggregate-put-lines
+    sub-put-lines
     put-lines-requires
     slice-reshare-prefix-write-all
     slice-aggregate-write-all
