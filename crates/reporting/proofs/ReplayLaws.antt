@@ -22,7 +22,7 @@ use Rattle.report.specs.Tallies.{Tally, continued, tallyOf, CountGives, ReplayS
 use Rattle.report.proofs.TallyLaws.{in-blocks}
 use Rattle.reporting.specs.Files.{Fills}
 use Rattle.reporting.specs.Blocks.{RECORDS, BYTES, BlockGives}
-use Rattle.reporting.specs.Replays.{Reached, MOST, goesOn, EndsAt, ReplayGives}
+use Rattle.reporting.specs.Replays.{Reached, MOST, beforeFirst, goesOn, EndsAt, ReplayGives}
 use Rattle.reporting.specs.declared.Block.{Block}
 use Rattle.reporting.specs.declared.Replayed.{Replayed}
 
@@ -56,14 +56,6 @@ unfolding tablesFit lengthFits
 ready-first lent registers buffer words links presents totals w t s =
     record { columns = t; in-limit = s .in-limit; fit = ap lengthFits w; indexed = s .indexed }
 
--- the first block has none before it
-pub first-block : (m : Machine) (totals : List ℤ) (b : Block) (buffer : Buffer) (words links presents : List ℕ) (totals′ : List ℤ)
-    (input : List ℕ) → BlockGives m totals b buffer words links presents totals′ input
-    → Reached m totals b 1 buffer words links presents totals′ input
-unfolding tallyOf commandsOf commandsFrom recordCount
-first-block m totals b buffer words links presents totals′ input g =
-    record { before = []; count = 0; full = refl; blocks-are = refl; fitted = refl; block = g }
-
 -- where it goes on, every total is within the limit, the block is full, and there is a next number
 pub goes-on : (b : Block) (blocks : ℕ) → goesOn b blocks ≡ true → (b .fits ≡ true) × (b .read ≡ BYTES) × (blocks < MOST)
 unfolding goesOn
@@ -96,6 +88,14 @@ ends b blocks l y k h = go (b .fits) (b .failed) (eqb (b .read) BYTES) (ltb bloc
     go true false true false p q r s e =
         let m : MOST ≤ blocks = ltb-false blocks MOST s in inr (inr (inr (omega (arith, m, k))))
 
+-- what a block is handed behind so many full ones
+pub record Handed (m : Machine) (totals : List ℤ) (now : Machine) (totals′ : List ℤ) (blocks : ℕ) : Type 0 where
+  pub before : List ℕ
+  pub full : length before ≡ BYTES * blocks
+  pub fitted : (tallyOf m totals (commandsOf before)) .fits ≡ true
+  pub machine-is : (tallyOf m totals (commandsOf before)) .machine ≡ now
+  pub totals-are : (tallyOf m totals (commandsOf before)) .totals ≡ totals′
+
 module _ (m : Machine) (totals : List ℤ) (b : Block) (blocks : ℕ) (buffer : Buffer) (words links presents : List ℕ) (totals′ : List ℤ)
     (input : List ℕ) (h : Reached m totals b blocks buffer words links presents totals′ input) where
   -- the tally of the bytes before the block and of its own goes on from the first
@@ -110,35 +110,86 @@ module _ (m : Machine) (totals : List ℤ) (b : Block) (blocks : ℕ) (buffer : 
       in-blocks m totals (RECORDS * h .count) (h .before) (take (b .read) input) counted
       ∙ ap (λ (x : Bool). cond x (tallyOf (first .machine) (first .totals) (commandsOf (take (b .read) input))) first) (h .fitted)
 
-  -- one block more, behind a full one after which every total is within the limit
-  pub next-block : (b .fits ≡ true) × (b .read ≡ BYTES) × (blocks < MOST) → length input ≡ BYTES
-      → (b₁ : Block) (buffer₁ : Buffer) (words₁ links₁ presents₁ : List ℕ) (totals₁ : List ℤ) (input₁ : List ℕ)
-      → BlockGives (record { registers = b .registers; buffer = buffer; words = words }) totals′ b₁ buffer₁ words₁ links₁ presents₁ totals₁
-      input₁
-      → Reached m totals b₁ (blocks + 1) buffer₁ words₁ links₁ presents₁ totals₁ input₁
-  next-block on l b₁ buffer₁ words₁ links₁ presents₁ totals₁ input₁ g =
+  -- what is handed to the block behind a full one after which every total is within the limit
+  handed-next : (b .fits ≡ true) × (b .read ≡ BYTES) × (blocks < MOST) → length input ≡ BYTES
+      → Handed m totals (record { registers = b .registers; buffer = buffer; words = words }) totals′ blocks
+  handed-next on l =
       let here : List ℕ = take (b .read) input in
-      let whole : Tally = tallyOf m totals (commandsOf (h .before ++ here)) in
       let c = h .block .counted in
       let long : length here ≡ BYTES = length-take-le (b .read) input (omega (arith, on .1, l)) ∙ on .1 in
       let same = joined-tally in
       record {
         before = h .before ++ here;
-        count = h .count + 1;
-        full = length-append (h .before) here ∙ omega (arith, h .full, long);
-        blocks-are = omega (arith, h .blocks-are);
+        full = length-append (h .before) here ∙ omega (arith, h .full, h .blocks-are, long);
         fitted = ap (λ (t : Tally). t .fits) same ∙ sym (c .fits-is) ∙ on .0;
+        machine-is = ap (λ (t : Tally). t .machine) same ∙ sym (c .machine-is);
+        totals-are = ap (λ (t : Tally). t .totals) same ∙ sym (c .totals-are);
+      }
+
+-- the loop from block to block: where it goes on, what the next block is handed; else the last one
+pub record Going (m : Machine) (totals : List ℤ) (b : Block) (blocks : ℕ) (buffer : Buffer) (words links presents : List ℕ)
+    (totals′ : List ℤ) (input : List ℕ) : Type 0 where
+  pub next : goesOn b blocks ≡ true → Handed m totals (record { registers = b .registers; buffer = buffer; words = words }) totals′ blocks
+  pub done : (goesOn b blocks ≡ true) ⊎ Reached m totals b blocks buffer words links presents totals′ input
+
+pub first-block : (r : Registers) (b : Block) (buffer : Buffer) (words links presents : List ℕ) (totals : List ℤ) (input : List ℕ)
+    → b ≡ beforeFirst r
+    → Going (record { registers = b .registers; buffer = buffer; words = words }) totals b 0 buffer words links presents totals input
+unfolding beforeFirst goesOn tallyOf commandsOf commandsFrom recordCount
+first-block r b buffer words links presents totals input e = record {
+  next = λ g. record { before = []; full = refl; fitted = refl; machine-is = refl; totals-are = refl };
+  done = inl (ap (λ (x : Block). goesOn x 0) e);
+}
+
+module _ (m : Machine) (totals : List ℤ) (b : Block) (blocks : ℕ) (buffer : Buffer) (words links presents : List ℕ) (totals′ : List ℤ)
+    (input : List ℕ) (s : Going m totals b blocks buffer words links presents totals′ input) where
+  -- one block more
+  pub next-block : goesOn b blocks ≡ true
+      → (b₁ : Block) (buffer₁ : Buffer) (words₁ links₁ presents₁ : List ℕ) (totals₁ : List ℤ) (input₁ : List ℕ) → length input₁ ≡ BYTES
+      → BlockGives (record { registers = b .registers; buffer = buffer; words = words }) totals′ b₁ buffer₁ words₁ links₁ presents₁ totals₁
+      input₁
+      → Going m totals b₁ (blocks + 1) buffer₁ words₁ links₁ presents₁ totals₁ input₁
+  next-block e b₁ buffer₁ words₁ links₁ presents₁ totals₁ input₁ l g =
+      let h = s .next e in
+      let r : Reached m totals b₁ (blocks + 1) buffer₁ words₁ links₁ presents₁ totals₁ input₁ = record {
+        before = h .before;
+        count = blocks;
+        full = h .full;
+        blocks-are = refl;
+        fitted = h .fitted;
         block =
-            subst (λ (t : List ℤ). BlockGives (whole .machine) t b₁ buffer₁ words₁ links₁ presents₁ totals₁ input₁)
-            (c .totals-are ∙ sym (ap (λ (t : Tally). t .totals) same))
-            (subst (λ (x : Machine). BlockGives x totals′ b₁ buffer₁ words₁ links₁ presents₁ totals₁ input₁)
-            (c .machine-is ∙ sym (ap (λ (t : Tally). t .machine) same)) g);
+            subst
+            (λ (t : List ℤ). BlockGives ((tallyOf m totals (commandsOf (h .before))) .machine) t b₁ buffer₁ words₁ links₁ presents₁ totals₁
+            input₁) (sym (h .totals-are))
+            (subst (λ (x : Machine). BlockGives x totals′ b₁ buffer₁ words₁ links₁ presents₁ totals₁ input₁) (sym (h .machine-is)) g);
+      } in
+      record {
+        next = λ q. handed-next m totals b₁ (blocks + 1) buffer₁ words₁ links₁ presents₁ totals₁ input₁ r (goes-on b₁ (blocks + 1) q) l;
+        done = inr r;
       }
 
   -- the last one
   pub last-block : blocks ≤ MOST → goesOn b blocks ≡ false
       → ReplayGives m totals (record { last = b; blocks = blocks }) buffer words links presents totals′ input
-  last-block k e = record { reached = h; why = ends b blocks (h .block .read-fits) (h .block .why-read) k e }
+  last-block k e = go (s .done)
+    where
+      go : (goesOn b blocks ≡ true) ⊎ Reached m totals b blocks buffer words links presents totals′ input
+          → ReplayGives m totals (record { last = b; blocks = blocks }) buffer words links presents totals′ input
+      go (inl q) = absurd (clash q e)
+      go (inr h) = record { reached = h; why = ends b blocks (h .block .read-fits) (h .block .why-read) k e }
+
+-- the registers that the first block is handed
+pub from-registers : (r : Registers) (b : Block) (buffer : Buffer) (words : List ℕ) (totals : List ℤ) (p : Replayed) (buffer₁ : Buffer)
+    (words₁ links₁ presents₁ : List ℕ) (totals₁ : List ℤ) (input₁ : List ℕ) → b ≡ beforeFirst r
+    → ReplayGives (record { registers = b .registers; buffer = buffer; words = words }) totals p buffer₁ words₁ links₁ presents₁ totals₁
+    input₁
+    → ReplayGives (record { registers = r; buffer = buffer; words = words }) totals p buffer₁ words₁ links₁ presents₁ totals₁ input₁
+unfolding beforeFirst
+from-registers r b buffer words totals p buffer₁ words₁ links₁ presents₁ totals₁ input₁ e g =
+    subst
+    (λ (x : Block). ReplayGives (record { registers = x .registers; buffer = buffer; words = words }) totals p buffer₁ words₁ links₁
+    presents₁
+    totals₁ input₁) e g
 
 -- a file from the start
 pub from-start : (lent : Buffer) (registers : Registers) (buffer : Buffer) (words links presents : List ℕ) (totals : List ℤ)

@@ -7,6 +7,7 @@ use mathlib.Core.Logic.{_⊎_}
 use lib.ListN.{length}
 use lib.Dec.{eqb, ltb}
 use lib.IntN.{ℤ}
+use Rattle.registers.specs.declared.Registers.{Registers}
 use Rattle.slots.specs.Buffer.{Buffer}
 use Rattle.store.specs.Machine.{Machine}
 use Rattle.trace.specs.Commands.{commandsOf}
@@ -30,6 +31,10 @@ pub record Reached (m : Machine) (totals : List ℤ) (b : Block) (blocks : ℕ) 
 -- the most blocks of a file
 abbrev pub MOST : ℕ
 MOST = 18446744073709551615
+
+-- before the first block of a file
+unfoldable pub beforeFirst : Registers → Block
+beforeFirst r = record { registers = r; fits = true; read = BYTES; failed = false; ended = false }
 
 -- a block is followed by another, where there are so many: every total is within the limit, no read failed, and it is full
 unfoldable pub goesOn : Block → (blocks : ℕ) → Bool

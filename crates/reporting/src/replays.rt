@@ -6,7 +6,7 @@ ghost use Rattle.slots.specs.Buffer.{Buffer};
 ghost use Rattle.trace.specs.Traces.{startMachine};
 ghost use Rattle.report.specs.Ready.{Ready};
 ghost use Rattle.reporting.specs.Blocks.{BYTES, RunsFit};
-ghost use Rattle.reporting.specs.Replays.{ReplayGives, goesOn};
+ghost use Rattle.reporting.specs.Replays.{ReplayGives, beforeFirst, goesOn};
 use crate::Block;
 use crate::Replayed;
 use crate::blocks::count_block;
@@ -23,6 +23,19 @@ fn goes_on(b: Block, blocks: u64) -> bool
     ensures { λ g. ⌜ g ≡ goesOn b blocks ⌝ }
 {
     b.fits & !b.failed & (b.read == BLOCK) & (blocks < MOST)
+}
+
+// Before the first block of a file: the registers that it is handed, and nothing that ends the file.
+fn before_first(registers: Registers) -> Block
+    ensures { λ b. ⌜ b ≡ beforeFirst registers ⌝ }
+{
+    Block {
+        registers,
+        fits: true,
+        read: BLOCK,
+        failed: false,
+        ended: false,
+    }
 }
 
 // Counts one block after the other, and answers the last one: it is not full, a read failed in it, or a total passed the limit. A proved
@@ -43,8 +56,8 @@ fn replay(
         (Buffer.Wide (now (buffer .exit))) (now (words .exit)) (now (links .exit)) (now (presents .exit)) (now (totals .exit))
         (now (input .exit)) ⌝ }
 {
-    let mut last = count_block(fd, r, buffer, words, links, presents, totals, input);
-    let mut blocks: u64 = 1;
+    let mut last = before_first(r);
+    let mut blocks: u64 = 0;
     while goes_on(last, blocks) {
         let registers = last.registers;
         last = count_block(fd, registers, buffer, words, links, presents, totals, input);

@@ -67,7 +67,8 @@ loop-again : tie.Need-loop-again Inv-loop μ-loop
 loop-again c = (
   read-fits (c .before .before .before .before .before .before .before .before .loop .run) (c .before .before .before .before
       .before .read-some .last .1 .0) (c .before .before .before .before .before .before .before .before .loop .done) _ (c .before .before
-      .before .before .before .read-some .result .length) (c .before .before .before .before .before .before .before .before .loop .inv .1) (c
+      .before .before .before .read-some .result .length) (c .before .before .before .before .before .before .before .before .loop .inv .1)
+      (c
       .before .before .before .before .before .before .before .before .loop .inv .0) (c .before .before .before .before .before .read-some
       .kept .1 .0) (c .before .before .before .before .before .read-some .ensures .0),
   read-length (c .before .before .before .before .before

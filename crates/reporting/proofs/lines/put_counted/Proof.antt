@@ -16,7 +16,8 @@ put-ending-requires c κs = (
       .before .before .before .before .before .before .before .before .before .before .before .before .before .before .before .pre .1,
   c
       .before .before .before .before .before .before .totals .given ∙ c .before .before .before .before .before .before .before .before
-      .before .before .before .before .before .before .before .before .before .before .before .before .before .before .before .before .before
+      .before .before .before .before .before .before .before .before .before .before .before .before .before .before .before .before
+      .before
       .before .before .before .pre .0 .4,
 )
 
@@ -44,9 +45,11 @@ same-length-7 c = search needs
 returns : tie.Need-returns
 returns c = (
   file-gives _ _ _ _ _ _ _ _ _ _ _ _ _ (c .before .before .before .before .before .before .before .before .before .before .before
-      .before .before .before .before .before .before .before .before .before .before .before .before .before .before .before .before .before
+      .before .before .before .before .before .before .before .before .before .before .before .before .before .before .before .before
+      .before
       .before .before .before .pre .0 .0) (c .before .before .before .before .before .before .before .before .before .before .before .before
-      .before .before .before .before .before .before .count-file .ensures) (c .before .before .before .before .before .ending-of .ensures) (c
+      .before .before .before .before .before .before .count-file .ensures) (c .before .before .before .before .before .ending-of .ensures)
+      (c
       .before .before .put-ending .ensures .0),
   c .before .before .put-ending .ensures .1,
 )

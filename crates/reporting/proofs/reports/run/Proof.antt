@@ -43,7 +43,8 @@ loop-again c = let v = c .before .before .before .before .before .before .before
       more-files _ _ _ _ _ _ _ (v .1) (goes-on (c .before .before .before .before .before .before .before .before
           .before .before .before .before .before .before .before .loop .written) (c .before .before .before .before .before .before .before
           .before .before .before .before .before .before .before .before .loop .next) _ (c .before .before .before .before .before .before
-          .before .before .before .before .before .before .before .before .loop-test .taken)) (c .before .before .before .before .before .before
+          .before .before .before .before .before .before .before .before .loop-test .taken)) (c .before .before .before .before .before
+          .before
           .before .before .before .write-lines .ensures),
       omega (arith, v .1),
       c .before .before .before .before .before .before .before .before
