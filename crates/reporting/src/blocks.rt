@@ -9,7 +9,7 @@ use crate::files::fill;
 use registers::Registers;
 
 // Reads a block and counts its records.
-pub fn count_block(
+pub(crate) fn count_block(
     fd: i32,
     r: Registers,
     buffer: &mut [u64],

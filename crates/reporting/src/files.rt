@@ -6,7 +6,7 @@ ghost use lib.ListN.{length};
 ghost use Rattle.reporting.specs.Files.{Fills};
 
 // How many bytes were read, whether a read failed, and whether one answered that the file has ended.
-pub struct Read {
+pub(crate) struct Read {
     pub length: usize,
     pub failed: bool,
     pub ended: bool,
@@ -35,7 +35,7 @@ fn read_some(fd: i32, part: &mut [u8]) -> Read
 }
 
 // Reads until the run is full, the file ends or a read fails.
-pub fn fill(fd: i32, run: &mut [u8]) -> Read
+pub(crate) fn fill(fd: i32, run: &mut [u8]) -> Read
     ensures { λ r. ⌜ Fills (length (now (run .exit))) r ⌝ }
 {
     let n = run.len();

@@ -84,7 +84,7 @@ fn put_open(fd: i32, number: u64, words: &mut [u32], input: &mut [u8], out: &mut
 }
 
 // A file that was not opened, with so many bytes of lines: its replay has no block.
-pub fn unopened(length: usize) -> Filed
+pub(crate) fn unopened(length: usize) -> Filed
     ensures { λ f. ⌜ (f .replayed .blocks ≡ 0) × (f .length ≡ length) ⌝ }
 {
     let registers = registers::zero_registers();
@@ -100,7 +100,7 @@ pub fn unopened(length: usize) -> Filed
 }
 
 // Opens a file, and puts its lines; one that can't be opened is unread.
-pub fn put_lines(
+pub(crate) fn put_lines(
     path: &[u8],
     number: u64,
     words: &mut [u32],

@@ -67,7 +67,7 @@ fn replay(
 }
 
 // Counts a file from the start state, over zero tables.
-pub fn count_file(
+pub(crate) fn count_file(
     fd: i32,
     buffer: &mut [u64],
     words: &mut [u32],

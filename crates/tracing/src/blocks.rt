@@ -8,7 +8,7 @@ use crate::Block;
 use registers::Registers;
 
 // Reads a block, makes its calls and writes its lines, from a record number on.
-pub fn run_block(
+pub(crate) fn run_block(
     r: Registers,
     buffer: &mut [u64],
     words: &mut [u32],
