@@ -2,6 +2,7 @@
 ghost use mathlib.Core.Path.{_≡_};
 ghost use Prim.Native.Nat.{_<_, _≤_};
 ghost use Rattle.runs.specs.Bits.{bit};
+ghost use Rattle.entry.specs.Entry.{FRAMES};
 ghost use Rattle.slots.specs.Buffer.{Buffer};
 ghost use Rattle.access.specs.Segments.{inLinearSegment, linearAddress, segmentBase, segmentOf};
 ghost use Rattle.access.specs.Exceptions.{accExc, exceptionValue, invExc, weExc};
@@ -10,6 +11,12 @@ ghost use Rattle.access.specs.Translation.{withCause};
 use entry::Entry;
 use registers::Access;
 use registers::Registers;
+
+// The exception value of a miss.
+pub const MISS: u32 = 8;
+
+// How many bytes a segment has: those of address bits 27 to 0.
+const SEGMENT: u32 = 1 << 28;
 
 // A physical address, or none.
 pub enum Physical {
@@ -57,7 +64,7 @@ fn linear_address(lo: u32, hi: u32, address: u32) -> u32
 {
     let segment = segment_of(address);
     let base = segment_base(lo, hi, segment);
-    base * 268435456 + address % 268435456
+    base * SEGMENT + address % SEGMENT
 }
 
 // CTRL's bit 2.
@@ -152,11 +159,11 @@ fn exception_answer(r: Registers, a: Access, slot: u32, value: u32, tested: Phys
 
 // Exactly one slot hit, and its entry has these fields.
 fn on_hit(r: Registers, a: Access, slot: u32, f: Entry) -> Translation
-    requires { ⌜ (r .context < 64) × (f .pfn < 524288) ⌝ }
+    requires { ⌜ (r .context < 64) × (f .pfn < FRAMES) ⌝ }
     ensures { λ t. ⌜ t ≡ onHit r a slot f ⌝ }
 {
     let value = exception_value(r.ctrl, a, f);
-    let address = f.pfn * 8192 + a.address % 8192;
+    let address = f.pfn * entry::PAGE + a.address % entry::PAGE;
     if value != 0 {
         return exception_answer(r, a, slot, value, Physical::Address(address));
     }
@@ -176,7 +183,7 @@ fn page_mapped(r: Registers, buffer: &[u64], a: Access) -> Translation
     let hits = found.count;
     if hits == 0 {
         let drawn = entry::slot_of(a.draw, vpn);
-        return exception_answer(r, a, drawn, 8, Physical::None);
+        return exception_answer(r, a, drawn, MISS, Physical::None);
     }
     if hits == 1 {
         let slot = entry::slot_of(found.set, vpn);

@@ -11,6 +11,7 @@ ghost use Rattle.control.specs.Reading.{ReadGives, readRefusal, readValu
 ghost use Rattle.control.specs.Setting.{GuardedSettingGives, isGuarded, settingRefusal, switchFits};
 use registers::Registers;
 use registers::Reply;
+use registers::refusals;
 
 // Register numbers.
 const CONTEXT: u32 = 5;
@@ -19,13 +20,16 @@ const TLB_HI: u32 = 7;
 
 const TLB_LO: u32 = 8;
 
+// The lowest bit of an entry above those of TLB_LO, as a number.
+const ABOVE_LO: u64 = 1 << 23;
+
 // Makes every slot empty and all registers 0. A refused start returns registers that are all 0 and alters nothing.
 pub fn start(buffer: &mut [u64]) -> Reply
     ensures { λ s. ⌜ StartGives (Buffer.Wide (now (buffer .entry))) (Buffer.Wide (now (buffer .exit))) s ⌝ }
 {
     let r = registers::zero_registers();
     if !slots::buffer_fits(buffer) {
-        return registers::refused(r, 2);
+        return registers::refused(r, refusals::BUFFER);
     }
     slots::empty_slots(buffer);
     registers::done(r, 0)
@@ -43,13 +47,13 @@ fn number_refusal(r: Registers, buffer: &[u64], number: u32) -> u32
     ensures { λ n. ⌜ n ≡ numberRefusal r (Buffer.Wide (now (buffer .entry))) number 0 ⌝ }
 {
     if !registers::registers_fit(r) {
-        return 1;
+        return refusals::REGISTERS;
     }
     if !slots::buffer_fits(buffer) {
-        return 2;
+        return refusals::BUFFER;
     }
     if !is_register(number) {
-        return 7;
+        return refusals::SETTING;
     }
     0
 }
@@ -63,7 +67,7 @@ fn write_refusal(r: Registers, buffer: &[u64], number: u32, value: u32) -> u32
         return refusal;
     }
     if !registers::fits_at(number, value) {
-        return 7;
+        return refusals::SETTING;
     }
     0
 }
@@ -75,7 +79,7 @@ fn write_buffer(r: Registers, buffer: &mut [u64], number: u32, value: u32)
 {
     if number == TLB_LO {
         let hi = r.tlb_hi;
-        let e = entry::join((hi >> 10) % 32768, hi % 64, value);
+        let e = entry::join((hi >> 10) % entry::VPN15S, hi % 64, value);
         slots::put_slot(buffer, r.select, e);
     }
 }
@@ -106,7 +110,7 @@ fn hi_at_select(r: Registers, e: u64) -> u32
 fn lo_of(e: u64) -> u32
     ensures { λ v. ⌜ v ≡ loOf e ⌝ }
 {
-    (e % 8388608) as u32
+    (e % ABOVE_LO) as u32
 }
 
 // TLB_HI and TLB_LO read as the entry at SELECT, every other number as its own field.
@@ -152,16 +156,16 @@ fn setting_refusal(r: Registers, number: u32, value: u32) -> u32
     ensures { λ n. ⌜ n ≡ settingRefusal r number value ⌝ }
 {
     if !registers::registers_fit(r) {
-        return 1;
+        return refusals::REGISTERS;
     }
     if !switch_fits(number, value) {
-        return 5;
+        return refusals::SERVICE;
     }
     if !is_guarded(number) {
-        return 7;
+        return refusals::SETTING;
     }
     if !registers::fits_at(number, value) {
-        return 7;
+        return refusals::SETTING;
     }
     0
 }

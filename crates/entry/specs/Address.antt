@@ -1,6 +1,13 @@
 -- An address is a 19-bit vpn and a 13-bit offset; a vpn is a vpn15 and a location.
-use Prim.Native.Nat.{ℕ, _+_, _*_, _/_, _%_}
+use Prim.Native.Nat.{ℕ, _+_, _*_, _/_, _%_, _^_}
 use Rattle.runs.specs.Bits.{bits}
+
+-- how many pages there are, and how many bytes a page has
+abbrev pub PAGES : ℕ
+PAGES = 2 ^ 19
+
+abbrev pub PAGE : ℕ
+PAGE = 2 ^ 13
 
 unfoldable pub vpnOf : (address : ℕ) → ℕ
 vpnOf address = bits 31 13 address

@@ -5,6 +5,10 @@ use lib.Dec.{eqb}
 use Rattle.runs.specs.Bits.{bits, flag, bit}
 use Rattle.entry.specs.declared.Entry.{Entry}
 
+-- how many frames there are: a pfn has 19 bits
+abbrev pub FRAMES : ℕ
+FRAMES = 2 ^ 19
+
 -- the fields of a number; bits 44 and up are ignored
 unfoldable pub unpack : (e : ℕ) → Entry
 unpack e = record {

@@ -5,6 +5,34 @@ ghost use Rattle.entry.specs.Address.{slotOf, vpnOf};
 ghost use Rattle.entry.specs.Entry.{EntryFits, join, lowBits, pack, unpack};
 ghost use Rattle.entry.specs.Empty.{emptyEntry};
 
+// How many pages there are, and how many frames: a vpn and a pfn have 19 bits.
+pub const PAGES: u32 = 1 << 19;
+
+pub const FRAMES: u32 = 1 << 19;
+
+// How many bytes a page has: an offset has 13 bits.
+pub const PAGE: u32 = 1 << 13;
+
+// How many values a vpn15 has, of 15 bits, and a pfn.
+pub const VPN15S: u32 = 1 << 15;
+
+const WIDE_VPN15S: u64 = VPN15S as u64;
+
+const WIDE_FRAMES: u64 = FRAMES as u64;
+
+// What the lowest bit of each field counts in an entry's number.
+const VPN15: u64 = 1 << 29;
+
+const PAGE_ID: u64 = 1 << 23;
+
+const GLOBAL: u32 = 1 << 22;
+
+const VALID: u32 = 1 << 21;
+
+const KERNEL: u32 = 1 << 20;
+
+const WE: u32 = 1 << 19;
+
 // The 44 bits of an entry, by their fields.
 pub struct Entry {
     pub vpn15: u32,
@@ -20,7 +48,7 @@ pub struct Entry {
 pub fn vpn15_of(e: u64) -> u32
     ensures { λ r. ⌜ r ≡ (unpack e) .vpn15 ⌝ }
 {
-    ((e >> 29) % 32768) as u32
+    ((e >> 29) % WIDE_VPN15S) as u32
 }
 
 // Bits 28 to 23.
@@ -55,7 +83,7 @@ pub fn unpack(e: u64) -> Entry
         valid: is_valid(e),
         kernel: (e >> 20) % 2 == 1,
         we: (e >> 19) % 2 == 1,
-        pfn: (e % 524288) as u32,
+        pfn: (e % WIDE_FRAMES) as u32,
     }
 }
 
@@ -64,7 +92,7 @@ pub fn join(vpn15: u32, page_id: u32, low: u32) -> u64
     requires { ⌜ (vpn15 < 2 ^ 15) × («page_id» < 2 ^ 6) × (low < 2 ^ 23) ⌝ }
     ensures { λ r. ⌜ r ≡ join vpn15 «page_id» low ⌝ }
 {
-    vpn15 as u64 * 536870912 + page_id as u64 * 8388608 + low as u64
+    vpn15 as u64 * VPN15 + page_id as u64 * PAGE_ID + low as u64
 }
 
 // Bits 22 to 0 of an entry's number.
@@ -72,10 +100,10 @@ fn low_bits(f: Entry) -> u32
     requires { ⌜ EntryFits f ⌝ }
     ensures { λ r. ⌜ (r ≡ lowBits f) × (r < 2 ^ 23) ⌝ }
 {
-    f.global as u32 * 4194304
-        + f.valid as u32 * 2097152
-        + f.kernel as u32 * 1048576
-        + f.we as u32 * 524288
+    f.global as u32 * GLOBAL
+        + f.valid as u32 * VALID
+        + f.kernel as u32 * KERNEL
+        + f.we as u32 * WE
         + f.pfn
 }
 
@@ -108,7 +136,7 @@ pub fn empty_entry(set: u32) -> u64
 pub fn vpn_of(address: u32) -> u32
     ensures { λ r. ⌜ r ≡ vpnOf address ⌝ }
 {
-    (address >> 13) % 524288
+    (address >> 13) % PAGES
 }
 
 // The slot of a set in which a page's entry stands.

@@ -3,11 +3,13 @@ ghost use mathlib.Core.Path.{_≡_};
 ghost use Prim.Native.Nat.{_≤_};
 ghost use lib.ListN.{length};
 ghost use Rattle.registers.specs.Refusals.{drawFits};
+ghost use Rattle.page_table.specs.Stretches.{ROOTS};
 ghost use Rattle.slots.specs.Buffer.{Buffer};
 ghost use Rattle.access.specs.Translation.{Accepted};
 ghost use Rattle.mmu.specs.RawAccess.{RawAccessGives, rawRefusal};
 ghost use Rattle.mmu.specs.ServedAccess.{AccessGives, RetryGives, ServedAccessGives, mayBeServed, servedRefusal, serviceRefusal};
 ghost use Rattle.mmu.specs.ServedAccess.{triedReply};
+use access::MISS;
 use access::Physical;
 use access::Translation;
 use page_table::Found;
@@ -16,12 +18,10 @@ use registers::Access;
 use registers::Outcome;
 use registers::Registers;
 use registers::Reply;
+use registers::refusals;
 
 // The number of the register SELECT.
 const SELECT: u32 = 6;
-
-// The exception value of a miss.
-const MISS: u32 = 8;
 
 // What a raw access replies: its answers and registers, or the refusal's number and the registers received.
 pub enum RawReply {
@@ -40,13 +40,13 @@ fn raw_refusal(r: Registers, buffer: &[u64], a: Access) -> u32
     ensures { λ n. ⌜ n ≡ rawRefusal r (Buffer.Wide (now (buffer .entry))) a ⌝ }
 {
     if !registers::registers_fit(r) {
-        return 1;
+        return refusals::REGISTERS;
     }
     if !slots::buffer_fits(buffer) {
-        return 2;
+        return refusals::BUFFER;
     }
     if !draw_fits(a.draw) {
-        return 4;
+        return refusals::DRAW;
     }
     0
 }
@@ -89,10 +89,10 @@ pub fn service_refusal(r: Registers, draw: u32) -> u32
     ensures { λ n. ⌜ n ≡ serviceRefusal r draw ⌝ }
 {
     if !draw_fits(draw) {
-        return 4;
+        return refusals::DRAW;
     }
     if !may_be_served(r) {
-        return 5;
+        return refusals::SERVICE;
     }
     0
 }
@@ -139,7 +139,7 @@ pub fn load_and_retry(leaf: Found, r: Registers, buffer: &mut [u64], a: Access) 
 
 // Tries; a miss is followed by a walk, which gives a leaf or the fault.
 fn serve(r: Registers, buffer: &mut [u64], words: &[u32], a: Access) -> Reply
-    requires { ⌜ Accepted r (Buffer.Wide (now buffer)) a × (64 ≤ length (now words)) ⌝ }
+    requires { ⌜ Accepted r (Buffer.Wide (now buffer)) a × (ROOTS ≤ length (now words)) ⌝ }
     ensures { λ s. ⌜ AccessGives
         (record { registers = r; buffer = Buffer.Wide (now (buffer .entry)); words = now (words .entry) }) a s
         (Buffer.Wide (now (buffer .exit))) ⌝ }

@@ -6,6 +6,16 @@ use lib.ListN.{length, take, drop}
 use lib.Dec.{eqb, leb}
 use Rattle.page_table.specs.Words.{reserved, number}
 
+-- how many roots there are, how many words a table has, and how many the longest run
+abbrev pub ROOTS : ℕ
+ROOTS = 64
+
+abbrev pub TABLE : ℕ
+TABLE = 1024
+
+abbrev pub LONGEST : ℕ
+LONGEST = 67108864
+
 -- the run passes the test of refusal 3: not below 1,024 words, not above 67,108,864, a multiple of 1,024
 unfoldable pub lengthFits : (length : ℕ) → Bool
 lengthFits length = leb 1024 length && leb length 67108864 && eqb (length % 1024) 0

@@ -3,13 +3,54 @@ ghost use mathlib.Core.Bool.{true};
 ghost use mathlib.Core.Path.{_≡_};
 ghost use Prim.Native.Nat.{_%_, _≤_, _<_};
 ghost use lib.ListN.{length, getD};
+ghost use Rattle.entry.specs.Address.{PAGES};
 ghost use Rattle.page_table.specs.Words.{present, number};
 ghost use Rattle.page_table.specs.Stretches as stretches;
-ghost use Rattle.page_table.specs.Stretches.{stretchSize, indexIn, broken, tablesFit};
+ghost use Rattle.page_table.specs.Stretches.{LONGEST, ROOTS, TABLE, stretchSize, indexIn, broken, tablesFit};
 ghost use Rattle.page_table.specs.Walk.{indexBelow, walkTree, walkPage};
 ghost use Rattle.page_table.specs.Reads.{leadsOn};
 ghost use Rattle.page_table.specs.Ends.{endAt, endRead, decided, ending};
 ghost use Rattle.page_table.specs.Faults.{faultKind, stopPlace, walkFault};
+
+// How many words a table and a directory have, and how many the longest run.
+pub const TABLE: usize = 1024;
+
+pub const DIRECTORY: usize = 512;
+
+const LONGEST: usize = 1 << 26;
+
+// How many pages a table has leaves for.
+const TABLE_PAGES: u32 = TABLE as u32;
+
+// The root of the global tree.
+const GLOBAL_ROOT: u32 = 63;
+
+// The highest bits of a table word: present, and in a leaf valid and write enable.
+pub const PRESENT: u32 = 1 << 31;
+
+pub const VALID: u32 = 1 << 30;
+
+pub const WE: u32 = 1 << 28;
+
+// How many values the 16 bits of a number have, and the 15 reserved bits above it.
+const NUMBERS: u32 = 1 << 16;
+
+const RESERVED: u32 = 1 << 15;
+
+// What the lowest bit of the word counts in a walk's end.
+const END_WORD: u64 = 1 << 32;
+
+// The kinds of the faults after a walk: a leaf was found, absent, broken.
+const MISS: u32 = 8;
+
+pub const ABSENT: u32 = 16;
+
+pub const BROKEN: u32 = 32;
+
+// A fault's kind is below the lowest bit of its level; above the four bits of that is the global tree's bit.
+const LEVEL: u32 = 1 << 8;
+
+const GLOBAL_TREE: u32 = 1 << 12;
 
 // A leaf: whether it stands in the global tree, its word, and the word's index in the run.
 pub struct Found {
@@ -35,14 +76,14 @@ pub fn tables_fit(words: &[u32]) -> bool
     ensures { λ r. ⌜ r ≡ tablesFit (now (words .entry)) ⌝ }
 {
     let n = words.len();
-    (1024 <= n) & (n <= 67108864) & (n % 1024 == 0)
+    (TABLE <= n) & (n <= LONGEST) & (n % TABLE == 0)
 }
 
 // How many words a stretch has, by the levels left below it: a table none, a directory one.
 pub fn stretch_size(levels: u32) -> usize
     ensures { λ r. ⌜ r ≡ stretchSize levels ⌝ }
 {
-    if levels == 0 { 1024 } else { 512 }
+    if levels == 0 { TABLE } else { DIRECTORY }
 }
 
 // The index of a page's word in such a stretch.
@@ -50,9 +91,9 @@ pub fn index_in(levels: u32, vpn: u32) -> usize
     ensures { λ r. ⌜ r ≡ indexIn levels vpn ⌝ }
 {
     if levels == 0 {
-        (vpn % 1024) as usize
+        (vpn % TABLE_PAGES) as usize
     } else {
-        (vpn / 1024) as usize
+        (vpn / TABLE_PAGES) as usize
     }
 }
 
@@ -67,17 +108,17 @@ pub fn is_present(word: u32) -> bool
 pub fn number_of(word: u32) -> usize
     ensures { λ r. ⌜ r ≡ number word ⌝ }
 {
-    (word % 65536) as usize
+    (word % NUMBERS) as usize
 }
 
 // Whether a present root or directory word is broken: reserved bits, number 0, or a stretch that is not wholly inside the run.
 fn is_broken(length: usize, size: usize, word: u32) -> bool
-    requires { ⌜ (1 ≤ size) × (size ≤ 1024) ⌝ }
+    requires { ⌜ (1 ≤ size) × (size ≤ TABLE) ⌝ }
     ensures { λ r. ⌜ r ≡ broken length size word ⌝ }
 {
     let number = number_of(word);
     let last = size * number + (size - 1);
-    ((word >> 16) % 32768 != 0) | (number == 0) | (length <= last)
+    ((word >> 16) % RESERVED != 0) | (number == 0) | (length <= last)
 }
 
 // Whether a word leads on to the stretch that it names, which has so many levels below it, in a run of a length.
@@ -101,7 +142,7 @@ fn stretch<'a>(words: &'a [u32], levels: u32, word: u32) -> &'a [u32]
 
 // The index in the run of a page's word in the stretch that a word names.
 pub fn index_below(vpn: u32, levels: u32, word: u32) -> u32
-    requires { ⌜ vpn < 524288 ⌝ }
+    requires { ⌜ vpn < PAGES ⌝ }
     ensures { λ r. ⌜ r ≡ indexBelow vpn levels word ⌝ }
 {
     let size = stretch_size(levels);
@@ -110,17 +151,17 @@ pub fn index_below(vpn: u32, levels: u32, word: u32) -> u32
 
 // A walk's end in one number: the word that decides, above 32 bits that are four times the word's index and the levels below it.
 pub fn end_at(levels: u32, word: u32, index: u32) -> u64
-    requires { ⌜ (levels ≤ 2) × (index < 67108864) ⌝ }
+    requires { ⌜ (levels ≤ 2) × (index < LONGEST) ⌝ }
     ensures { λ r. ⌜ r ≡ endAt levels word index ⌝ }
 {
-    word as u64 * 4294967296 + 4 * index as u64 + levels as u64
+    word as u64 * END_WORD + 4 * index as u64 + levels as u64
 }
 
 // The walk from a word, which stands at an index of the run and has so many levels below it: where it ends, and the word that it read
 // there. The run is lent behind a reference, which each level hands on as it is: that and a number as the answer let the compiler make
 // a loop of the calls.
 fn descend(words: &&[u32], vpn: u32, levels: u32, word: u32, index: u32) -> u64
-    requires { ⌜ (vpn < 524288) × (levels ≤ 2) × (index < 67108864) × (word ≡ getD (now (now words)) index 0) ⌝ }
+    requires { ⌜ (vpn < PAGES) × (levels ≤ 2) × (index < LONGEST) × (word ≡ getD (now (now words)) index 0) ⌝ }
     ensures { λ r. ⌜ r ≡ endRead (now (now (words .entry))) vpn levels index ⌝ }
 {
     if levels == 0 {
@@ -163,13 +204,13 @@ pub fn ended(global: bool, end: u64) -> Walk
 {
     let levels = (end % 4) as u32;
     let word = (end >> 32) as u32;
-    let index = (end % 4294967296 / 4) as u32;
+    let index = (end % END_WORD / 4) as u32;
     decided(global, levels, word, index)
 }
 
 // The walk of one tree, from its root.
 fn walk_tree(words: &[u32], vpn: u32, global: bool, root: u32) -> Walk
-    requires { ⌜ (vpn < 524288) × (root ≤ 63) × (64 ≤ length (now words)) ⌝ }
+    requires { ⌜ (vpn < PAGES) × (root ≤ 63) × (ROOTS ≤ length (now words)) ⌝ }
     ensures { λ r. ⌜ r ≡ walkTree (now (words .entry)) vpn global root ⌝ }
 {
     let word = words[root as usize];
@@ -179,10 +220,10 @@ fn walk_tree(words: &[u32], vpn: u32, global: bool, root: u32) -> Walk
 
 // The walk of a page under an identification: the global tree first, and the own tree where that has nothing.
 pub fn walk_page(words: &[u32], id: u32, vpn: u32) -> Walk
-    requires { ⌜ (id ≤ 63) × (vpn < 524288) × (64 ≤ length (now words)) ⌝ }
+    requires { ⌜ (id ≤ 63) × (vpn < PAGES) × (ROOTS ≤ length (now words)) ⌝ }
     ensures { λ r. ⌜ r ≡ walkPage (now (words .entry)) id vpn ⌝ }
 {
-    let first = walk_tree(words, vpn, true, 63);
+    let first = walk_tree(words, vpn, true, GLOBAL_ROOT);
     let Walk::Absent(_) = first else {
         return first;
     };
@@ -194,7 +235,7 @@ fn stop_place(stop: Stop) -> u32
     ensures { λ r. ⌜ r ≡ stopPlace stop ⌝ }
 {
     let tree = stop.global as u32;
-    stop.level % 16 * 256 + tree * 4096
+    stop.level % 16 * LEVEL + tree * GLOBAL_TREE
 }
 
 // The fault value of an access that still misses after this walk.
@@ -202,9 +243,9 @@ pub fn walk_fault(found: Walk) -> u32
     ensures { λ r. ⌜ r ≡ walkFault found ⌝ }
 {
     match found {
-        Walk::Leaf(_) => 8,
-        Walk::Absent(stop) => 16 + stop_place(stop),
-        Walk::Broken(stop) => 32 + stop_place(stop),
+        Walk::Leaf(_) => MISS,
+        Walk::Absent(stop) => ABSENT + stop_place(stop),
+        Walk::Broken(stop) => BROKEN + stop_place(stop),
     }
 }
 
@@ -212,5 +253,5 @@ pub fn walk_fault(found: Walk) -> u32
 pub fn fault_kind(value: u32) -> u32
     ensures { λ r. ⌜ r ≡ faultKind value ⌝ }
 {
-    value % 256
+    value % LEVEL
 }

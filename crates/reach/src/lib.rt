@@ -10,12 +10,20 @@ ghost use Rattle.page_table.specs.Stretches.{tablesFit};
 ghost use Rattle.reach.specs.Index.{Indexes, linksOf, presentsOf};
 ghost use Rattle.reach.specs.Leaves.{leafCount};
 
+// How many words a table and a directory have.
+const TABLE: u32 = page_table::TABLE as u32;
+
+const DIRECTORY: u32 = page_table::DIRECTORY as u32;
+
+// How many roots there are; and as a root's number, one that is none.
+const ROOTS: u32 = 64;
+
 // How many leaf words the tables have, by their index.
 pub fn leaf_count(words: &[u32], links: &[u32], presents: &[u32]) -> u32
     requires { ⌜ (tablesFit (now words) ≡ true) × Indexes (now words) (now links) (now presents) ⌝ }
     ensures { λ n. ⌜ n ≡ leafCount (now (words .entry)) ⌝ }
 {
-    let tables = words.len() / 1024;
+    let tables = words.len() / page_table::TABLE;
     let mut leaves: u32 = 0;
     let mut t: usize = 0;
     while t < tables {
@@ -33,7 +41,7 @@ fn recount(words: &[u32], presents: &mut [u32], index: u32, old: u32)
     requires { ⌜ (tablesFit (now words) ≡ true) × (index < length (now words)) × (now presents ≡ presentsOf (set (now words) index old)) ⌝ }
     ensures { λ _. ⌜ now (presents .exit) ≡ presentsOf (now (words .entry)) ⌝ }
 {
-    let table = (index / 1024) as usize;
+    let table = (index / TABLE) as usize;
     let word = words[index as usize];
     let more = page_table::is_present(word) as u32;
     let fewer = page_table::is_present(old) as u32;
@@ -46,7 +54,7 @@ fn relink(words: &[u32], links: &mut [u32], index: u32, old: u32)
     ensures { λ _. ⌜ now (links .exit) ≡ linksOf (now (words .entry)) ⌝ }
 {
     let word = words[index as usize];
-    if index < 64 {
+    if index < ROOTS {
         links::shift_root(words, links, index, old, false);
         links::shift_root(words, links, index, word, true);
         return;
@@ -55,8 +63,8 @@ fn relink(words: &[u32], links: &mut [u32], index: u32, old: u32)
     if !(page_table::leads_on(length, 0, old) | page_table::leads_on(length, 0, word)) {
         return;
     }
-    // 64 is no root: all of them count.
-    if links::reached_beside(words, 64, index / 512) {
+    // No root is left out: all of them count.
+    if links::reached_beside(words, ROOTS, index / DIRECTORY) {
         links::shift(links, length, old, false);
         links::shift(links, length, word, true);
     }

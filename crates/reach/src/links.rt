@@ -12,7 +12,7 @@ pub(crate) fn reached_beside(words: &[u32], root: u32, directory: u32) -> bool
     ensures { λ b. ⌜ b ≡ reachedBeside (now (words .entry)) root directory ⌝ }
 {
     let mut r: u32 = 0;
-    while r < 64 {
+    while r < crate::ROOTS {
         let word = words[r as usize];
         let here = page_table::leads_on(words.len(), 1, word)
             & (page_table::number_of(word) == directory as usize);
@@ -49,9 +49,9 @@ fn shift_directory(words: &[u32], links: &mut [u32], directory: usize, up: bool)
     requires { ⌜ (512 * directory + 512 ≤ length (now words)) × RelinksAll up (now words) directory (now links) ⌝ }
     ensures { λ _. ⌜ now (links .exit) ≡ relinkedFirst up (now (words .entry)) directory 512 (now (links .entry)) ⌝ }
 {
-    let from = 512 * directory;
+    let from = page_table::DIRECTORY * directory;
     let mut k: usize = 0;
-    while k < 512 {
+    while k < page_table::DIRECTORY {
         let word = words[from + k];
         shift(links, words.len(), word, up);
         k += 1;

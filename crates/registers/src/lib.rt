@@ -1,4 +1,6 @@
 // The registers by value, the access that a call is asked for, and what a call replies.
+pub mod refusals;
+
 ghost use mathlib.Core.Path.{_≡_};
 ghost use Prim.Native.Nat.{_<_};
 ghost use Rattle.registers.specs.Fields.{field, fitsAt, fromWords, put, registersFit, toWords, zeroRegisters};
@@ -43,19 +45,40 @@ pub struct Reply {
     pub registers: Registers,
 }
 
-// The least number that is too large for each field.
+// The least number that is too large for each field, by how many bits it has.
+const KSEG_LIMIT: u32 = 1 << 16;
+
+const CTRL_LIMIT: u32 = 1 << 3;
+
+const ENABLE_LIMIT: u32 = 1 << 1;
+
+const KBASE_LIMIT: u64 = 1 << 32;
+
+const CONTEXT_LIMIT: u32 = 1 << 6;
+
+const SELECT_LIMIT: u32 = 1 << 6;
+
+const TLB_HI_LIMIT: u32 = 1 << 25;
+
+const TLB_LO_LIMIT: u32 = 1 << 23;
+
+const TEST_LIMIT: u32 = 1 << 1;
+
+const CAUSE_LIMIT: u32 = 1 << 5;
+
+// The limits in the order of the fields' places.
 const LIMITS: [u64; 11] = [
-    65536,
-    8,
-    2,
-    4294967296,
-    4294967296,
-    64,
-    64,
-    33554432,
-    8388608,
-    2,
-    32,
+    KSEG_LIMIT as u64,
+    CTRL_LIMIT as u64,
+    ENABLE_LIMIT as u64,
+    KBASE_LIMIT,
+    KBASE_LIMIT,
+    CONTEXT_LIMIT as u64,
+    SELECT_LIMIT as u64,
+    TLB_HI_LIMIT as u64,
+    TLB_LO_LIMIT as u64,
+    TEST_LIMIT as u64,
+    CAUSE_LIMIT as u64,
 ];
 
 // The fields in the order of their places.
@@ -127,15 +150,15 @@ pub fn registers_fit(r: Registers) -> bool
     ensures { λ b. ⌜ b ≡ registersFit r ⌝ }
 {
     let mut fits = true;
-    fits = (r.kseg < 65536) & fits;
-    fits = (r.ctrl < 8) & fits;
-    fits = (r.enable < 2) & fits;
-    fits = (r.context < 64) & fits;
-    fits = (r.select < 64) & fits;
-    fits = (r.tlb_hi < 33554432) & fits;
-    fits = (r.tlb_lo < 8388608) & fits;
-    fits = (r.test < 2) & fits;
-    fits = (r.cause < 32) & fits;
+    fits = (r.kseg < KSEG_LIMIT) & fits;
+    fits = (r.ctrl < CTRL_LIMIT) & fits;
+    fits = (r.enable < ENABLE_LIMIT) & fits;
+    fits = (r.context < CONTEXT_LIMIT) & fits;
+    fits = (r.select < SELECT_LIMIT) & fits;
+    fits = (r.tlb_hi < TLB_HI_LIMIT) & fits;
+    fits = (r.tlb_lo < TLB_LO_LIMIT) & fits;
+    fits = (r.test < TEST_LIMIT) & fits;
+    fits = (r.cause < CAUSE_LIMIT) & fits;
     fits
 }
 
@@ -150,13 +173,13 @@ pub fn machine_refusal(registers: bool, buffer: bool, tables: bool) -> u32
     ensures { λ n. ⌜ n ≡ machineRefusal registers buffer tables 0 ⌝ }
 {
     if !registers {
-        return 1;
+        return refusals::REGISTERS;
     }
     if !buffer {
-        return 2;
+        return refusals::BUFFER;
     }
     if !tables {
-        return 3;
+        return refusals::TABLES;
     }
     0
 }

@@ -7,7 +7,7 @@ ghost use Rattle.slots.specs.Buffer.{Buffer, bufferFits, slotAt, withSlo
 ghost use Rattle.slots.specs.Start.{startBuffer};
 
 // An entry has the 44 bits below this one.
-const BIT_44: u64 = 17592186044416;
+const BIT_44: u64 = 1 << 44;
 
 // The run is as long as the buffer has slots.
 pub fn buffer_fits(buffer: &[u64]) -> bool

@@ -4,7 +4,9 @@ ghost use mathlib.Core.List.{[], _∷_};
 ghost use mathlib.Core.Path.{_≡_};
 ghost use Prim.Native.Nat.{_<_, _≤_, _^_};
 ghost use lib.ListN.{length};
+ghost use Rattle.entry.specs.Address.{PAGES};
 ghost use Rattle.entry.specs.Entry.{pack, unpack};
+ghost use Rattle.page_table.specs.Stretches.{ROOTS};
 ghost use Rattle.slots.specs.Buffer.{Buffer, bufferFits};
 ghost use Rattle.store.specs.Leaf.{leafEntry};
 ghost use Rattle.store.specs.Sweep.{SweepGives, agreesWithLeaf, goes, kept, settled};
@@ -16,6 +18,7 @@ use page_table::Found;
 use page_table::Walk;
 use registers::Registers;
 use registers::Reply;
+use registers::refusals;
 
 // A page under an identification.
 pub struct Page {
@@ -32,7 +35,7 @@ pub enum Claim {
 
 // The number of a leaf's entry for a page under an identification.
 pub fn leaf_entry(id: u32, vpn: u32, found: Found) -> u64
-    requires { ⌜ (id < 64) × (vpn < 524288) ⌝ }
+    requires { ⌜ (id < 64) × (vpn < PAGES) ⌝ }
     ensures { λ e. ⌜ e ≡ pack (leafEntry id vpn found) ⌝ }
 {
     let word = found.word;
@@ -43,7 +46,7 @@ pub fn leaf_entry(id: u32, vpn: u32, found: Found) -> u64
         valid: (word >> 30) % 2 == 1,
         kernel: (word >> 29) % 2 == 1,
         we: (word >> 28) % 2 == 1,
-        pfn: word % 524288,
+        pfn: word % entry::FRAMES,
     })
 }
 
@@ -76,7 +79,7 @@ pub fn agrees_with_leaf(found: Walk, page: Page, e: u64) -> bool
 
 // The entry of a slot is empty, or the tables give what it claims.
 fn kept(words: &[u32], slot: u32, e: u64) -> bool
-    requires { ⌜ (64 ≤ length (now words)) × (slot < 64) × (e < 2 ^ 44) ⌝ }
+    requires { ⌜ (ROOTS ≤ length (now words)) × (slot < 64) × (e < 2 ^ 44) ⌝ }
     ensures { λ r. ⌜ r ≡ kept (now (words .entry)) slot (unpack e) ⌝ }
 {
     match claim_of(slot, e) {
@@ -105,7 +108,7 @@ pub fn settle(buffer: &mut [u64], slot: u32, keep: bool) -> u32
 
 // Empties every slot that is not kept, and answers how many.
 fn sweep(buffer: &mut [u64], words: &[u32]) -> u32
-    requires { ⌜ (bufferFits (Buffer.Wide (now buffer)) ≡ true) × (64 ≤ length (now words)) ⌝ }
+    requires { ⌜ (bufferFits (Buffer.Wide (now buffer)) ≡ true) × (ROOTS ≤ length (now words)) ⌝ }
     ensures { λ n. ⌜ SweepGives (now (words .entry)) (Buffer.Wide (now (buffer .entry))) (Buffer.Wide (now (buffer .exit))) n ⌝ }
 {
     let mut emptied: u32 = 0;
@@ -121,7 +124,7 @@ fn sweep(buffer: &mut [u64], words: &[u32]) -> u32
 
 // Writes one word and sweeps; answers how many slots were emptied.
 pub fn rewrite(buffer: &mut [u64], words: &mut [u32], index: u32, value: u32) -> u32
-    requires { ⌜ (bufferFits (Buffer.Wide (now buffer)) ≡ true) × (64 ≤ length (now words)) × (index < length (now words)) ⌝ }
+    requires { ⌜ (bufferFits (Buffer.Wide (now buffer)) ≡ true) × (ROOTS ≤ length (now words)) × (index < length (now words)) ⌝ }
     ensures { λ n. ⌜ RewriteGives ((record { index = index; value = value }) ∷ []) (now (words .entry)) (now (words .exit))
         (Buffer.Wide (now (buffer .entry))) (Buffer.Wide (now (buffer .exit))) n ⌝ }
 {
@@ -144,7 +147,7 @@ pub fn store_refusal(r: Registers, buffer: &[u64], words: &[u32], index: u32) ->
     }
     let index_fits = (index as usize) < words.len();
     if !index_fits {
-        return 6;
+        return refusals::INDEX;
     }
     0
 }

@@ -4,6 +4,9 @@ ghost use Prim.Native.Nat.{_+_, _*_, _≤_, _<_};
 ghost use lib.ListN.{length};
 ghost use Rattle.wire.specs.Wire.{AreBytes, bytesOf, decoded, elementAt, encoded, withElement};
 
+// What the lowest bit of a number's upper word counts.
+const UPPER: u64 = 1 << 32;
+
 // A byte as a number.
 fn wide(x: u8) -> u32
     ensures { λ r. ⌜ (r ≡ x) × (r < 256) ⌝ }
@@ -34,7 +37,7 @@ pub fn number_at(bytes: &[u8], index: usize) -> u64
 {
     let high = word_at(bytes, 2 * index) as u64;
     let low = word_at(bytes, 2 * index + 1) as u64;
-    high * 4294967296 + low
+    high * UPPER + low
 }
 
 // Writes as many bytes of a number as the run has.
