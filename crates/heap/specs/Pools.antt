@@ -9,6 +9,10 @@ use Rattle.heap.specs.Bits.{heldAt, freeAt, withHeld}
 use Rattle.heap.specs.declared.Pool.{Pool}
 use Rattle.heap.specs.declared.PoolReply.{PoolReply}
 
+-- how many frames the largest pool has
+abbrev pub LARGEST : ℕ
+LARGEST = 4096
+
 -- number 1 is "also for a size of 0 or above 4,096, or a pool that runs past pfn 524,287"
 unfoldable pub framesFit : (first size : ℕ) → Bool
 framesFit first size = leb 1 size && leb size 4096 && leb (first + size) 524288

@@ -6,6 +6,7 @@ ghost use lib.Count.{trailingZeros};
 ghost use lib.ListN.{getD, set};
 ghost use Rattle.runs.specs.Counts.{count, lowest};
 ghost use Rattle.heap.specs.Bits.{freeAt, heldAt, withHeld};
+ghost use Rattle.heap.specs.Pools.{LARGEST};
 
 // The lowest bits of a number, as many as the width says.
 fn low_bits(n: u64, width: u32) -> u64
@@ -34,7 +35,7 @@ fn lowest_set(n: u64) -> u32
 
 // The place of the lowest free frame; the size where every frame is held.
 pub(crate) fn lowest_free(bits: &[u64; 64], size: u32) -> u32
-    requires { ⌜ size ≤ 4096 ⌝ }
+    requires { ⌜ size ≤ LARGEST ⌝ }
     ensures { λ r. ⌜ r ≡ lowest (freeAt (now (bits .entry))) size size ⌝ }
 {
     let mut k: u32 = 0;
@@ -51,7 +52,7 @@ pub(crate) fn lowest_free(bits: &[u64; 64], size: u32) -> u32
 
 // How many frames are held.
 pub(crate) fn held_frames(bits: &[u64; 64], size: u32) -> u32
-    requires { ⌜ size ≤ 4096 ⌝ }
+    requires { ⌜ size ≤ LARGEST ⌝ }
     ensures { λ r. ⌜ r ≡ count (heldAt (now (bits .entry))) size ⌝ }
 {
     let mut number: u32 = 0;
@@ -66,7 +67,7 @@ pub(crate) fn held_frames(bits: &[u64; 64], size: u32) -> u32
 
 // Whether the frame at a place is held.
 pub(crate) fn held_at(bits: &[u64; 64], place: u32) -> bool
-    requires { ⌜ place < 4096 ⌝ }
+    requires { ⌜ place < LARGEST ⌝ }
     ensures { λ b. ⌜ b ≡ heldAt (now (bits .entry)) place ⌝ }
 {
     (word_at(bits, place / 64) >> (place % 64)) % 2 == 1
@@ -82,7 +83,7 @@ fn put_word(bits: &mut [u64; 64], k: u32, word: u64)
 
 // Flips the bit at a place: a free frame becomes held, and a held one free.
 pub(crate) fn flip(bits: &mut [u64; 64], place: u32)
-    requires { ⌜ place < 4096 ⌝ }
+    requires { ⌜ place < LARGEST ⌝ }
     ensures { λ _. ⌜ now (bits .exit) ≡ withHeld (not (heldAt (now (bits .entry)) place)) place (now (bits .entry)) ⌝ }
 {
     let k = place / 64;

@@ -1,6 +1,7 @@
 // The call map: a frame taken and stored, by its pfn, in a leaf of the page tables.
 ghost use mathlib.Core.Path.{_≡_};
 ghost use Prim.Native.Nat.{_<_};
+ghost use Rattle.entry.specs.Entry.{FRAMES};
 ghost use Rattle.slots.specs.Buffer.{Buffer};
 ghost use Rattle.heap.specs.Map.{MapGives, MayMap, mappedWord, refusedMap};
 use crate::Mapped;
@@ -9,13 +10,17 @@ use crate::bits::flip;
 use crate::bits::lowest_free;
 use crate::calls::frames_fit;
 use registers::Registers;
+use registers::refusals;
+
+// How many values the bits of a leaf have that a map keeps: valid, kernel, we and nine software bits, above the pfn's 19.
+const KEPT: u32 = 1 << 12;
 
 // A leaf with present set and another pfn; valid, kernel, we and the software bits stay.
 fn mapped_word(leaf: u32, pfn: u32) -> u32
-    requires { ⌜ pfn < 524288 ⌝ }
+    requires { ⌜ pfn < FRAMES ⌝ }
     ensures { λ w. ⌜ w ≡ mappedWord leaf pfn ⌝ }
 {
-    2147483648 + (leaf >> 19) % 4096 * 524288 + pfn
+    page_table::PRESENT + (leaf >> 19) % KEPT * entry::FRAMES + pfn
 }
 
 // A refused map takes no frame.
@@ -66,7 +71,7 @@ pub fn map(
         pool index leaf a (Buffer.Wide (now (buffer .exit))) (now (words .exit)) ⌝ }
 {
     if !frames_fit(pool.first, pool.size) {
-        return refused_map(r, 1, pool);
+        return refused_map(r, refusals::POOL, pool);
     }
     let refusal = store::store_refusal(r, buffer, words, index);
     if refusal != 0 {
@@ -74,7 +79,7 @@ pub fn map(
     }
     let place = lowest_free(&pool.bits, pool.size);
     if place == pool.size {
-        return refused_map(r, 10, pool);
+        return refused_map(r, refusals::FULL, pool);
     }
     map_frame(r, buffer, words, pool, place, index, leaf)
 }

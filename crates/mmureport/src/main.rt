@@ -3,8 +3,8 @@
 fn main() {
     let mut path = [0u8; 4096];
     let mut words: [u32; 16384] = [0; 16384];
-    let mut input = [0u8; 65536];
-    let mut out = [0u8; 20480];
+    let mut input = [0u8; reporting::BLOCK];
+    let mut out = [0u8; reporting::ROOM];
     let count = os::arg_count();
     reporting::run(count, &mut path, &mut words, &mut input, &mut out);
 }

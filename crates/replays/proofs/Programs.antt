@@ -16,6 +16,7 @@ use Rattle.trace.specs.Traces.{startMachine, machineAfter, linesOf, traceText}
 use Rattle.trace.proofs.Blocks.{in-blocks, joined, first-length}
 use Rattle.tracing.specs.Blocks.{RECORDS}
 use Rattle.report.specs.Tallies.{Tally, fileTally}
+use Rattle.report.specs.Totals.{TOTALS}
 use Rattle.reporting.specs.Replays.{EndsAt}
 use Rattle.reporting.specs.Endings.{endingOf, endingText}
 use Rattle.reporting.specs.declared.Block.{Block}
@@ -86,7 +87,7 @@ reported-are-sums number f words input out g =
     let h = g .replay .reached in
     let last = f .replayed .last in
     let c = h .block .counted in
-    let same = joined-tally (startMachine (g .lent)) (replicate 882 (pos 0)) last (f .replayed .blocks) (g .buffer) words (g .links)
+    let same = joined-tally (startMachine (g .lent)) (replicate TOTALS (pos 0)) last (f .replayed .blocks) (g .buffer) words (g .links)
     (g .presents) (g .totals) input h in
     let fits : last .fits ≡ (wholeTally (g .lent) (h .before) f input) .fits = c .fits-is ∙ sym (ap (λ (t : Tally). t .fits) same) in
     let totals : g .totals ≡ (wholeTally (g .lent) (h .before) f input) .totals =

@@ -12,7 +12,7 @@ use Rattle.sequence.specs.Systems.Moment.{Start}
 use Rattle.trace.specs.Commands.{commandsOf}
 use Rattle.trace.specs.Traces.{startMachine}
 use Rattle.trace.specs.declared.Command.{Command}
-use Rattle.report.specs.Totals.{totalAt, within, SERVED}
+use Rattle.report.specs.Totals.{TOTALS, totalAt, within, SERVED}
 use Rattle.report.specs.Sums.{sumOf}
 use Rattle.report.proofs.StartLaws.{zero-total}
 use Rattle.report.proofs.SumLaws.{file-totals-are-sums}
@@ -35,10 +35,10 @@ module _ (lent : Buffer) (f : bufferFits lent ≡ true) where
 
   -- a total that begins with 0
   from-zero : (cs : List Command) (id column : ℕ)
-      → getD (replicate 882 (pos 0)) (totalAt id column) (pos 0) +ℤ sumOf (startMachine lent) cs id column
+      → getD (replicate TOTALS (pos 0)) (totalAt id column) (pos 0) +ℤ sumOf (startMachine lent) cs id column
       ≡ sumOver (traceSystem lent) (recordEvents lent cs) id column
   from-zero cs id column =
-      ap₂ _+ℤ_ (zero-total 882 (totalAt id column)) (record-sums cs id column)
+      ap₂ _+ℤ_ (zero-total TOTALS (totalAt id column)) (record-sums cs id column)
       ∙ +ℤ-idl (sumOver (traceSystem lent) (recordEvents lent cs) id column)
 
 pub reports-are-sums : ReportsAreSums

@@ -17,7 +17,7 @@ use Rattle.trace.specs.Steps.{stepReply, wordsAfterStep, machineAfterStep}
 use Rattle.trace.specs.Traces.{startMachine}
 use Rattle.trace.specs.declared.Command.{Command}
 use Rattle.trace.specs.declared.Command.the-variants.{Serve, Store, Set, Malformed}
-use Rattle.report.specs.Totals.{Gain, Booked, totalAt, booked, within, bookedWithin, bookedAll, AllWithin}
+use Rattle.report.specs.Totals.{TOTALS, Gain, Booked, totalAt, booked, within, bookedWithin, bookedAll, AllWithin}
 use Rattle.report.specs.Gains.{gain, hasColumn, faultColumn, faultGains, accessGains, storeGains, leafChange, gainsOf}
 use Rattle.report.specs.Tallies.{Tally, bookedBy, tallyStep, continued, tallyOf, fileTally}
 use Rattle.report.specs.Sums.{amountIn, added, sumOf, StaysWithin, FitsWhereWithin, FileFitsWhereWithin}
@@ -87,7 +87,7 @@ gains-apart m (Set number value) = tt
 gains-apart m Malformed = tt
 
 -- where an amount fits, the totals stay within the limit
-module _ (id : ℕ) (g : Gain) (totals : List ℤ) (has : g .column < 14) (long : length totals ≡ 882) where
+module _ (id : ℕ) (g : Gain) (totals : List ℤ) (has : g .column < 14) (long : length totals ≡ TOTALS) where
   stays : AllWithin totals → bookedWithin id g totals ≡ true → AllWithin (booked id g totals)
   unfolding booked bookedWithin within totalAt
   stays all = go (leb id 62) refl
@@ -102,7 +102,7 @@ module _ (id : ℕ) (g : Gain) (totals : List ℤ) (has : g .column < 14) (long 
           all-set totals (14 * id + g .column) sum all (omega arith) (leb-true (natAbs sum) 4294967295 q)
       go false p q = all
 
-all-stay : (id : ℕ) (gs : List Gain) (totals : List ℤ) → Columned gs → length totals ≡ 882 → AllWithin totals
+all-stay : (id : ℕ) (gs : List Gain) (totals : List ℤ) → Columned gs → length totals ≡ TOTALS → AllWithin totals
     → (bookedAll id gs totals) .fits ≡ true → AllWithin ((bookedAll id gs totals) .totals)
 unfolding bookedAll
 all-stay id [] totals h long all e = all
@@ -127,7 +127,7 @@ none-fit id [] totals h = refl
 none-fit id (g ∷ gs) totals h = let off : leb id 62 ≡ false = lt-leb id 62 h in rw off (none-fit id gs (booked id g totals) h)
 
 -- amounts fit where the sums of each column are within the limit
-all-fit : (id : ℕ) (gs : List Gain) (totals : List ℤ) → id ≤ 62 → Columned gs → Apart gs → length totals ≡ 882
+all-fit : (id : ℕ) (gs : List Gain) (totals : List ℤ) → id ≤ 62 → Columned gs → Apart gs → length totals ≡ TOTALS
     → ((column : ℕ) → column < 14 → within (getD totals (totalAt id column) (pos 0) +ℤ amountIn column gs) ≡ true)
     → (bookedAll id gs totals) .fits ≡ true
 unfolding bookedAll bookedWithin amountIn
@@ -166,7 +166,7 @@ all-fit id (g ∷ gs) totals inside h apart long each =
     go false e ih = absurd (true≢false (sym e))
 
 -- one record
-module _ (m : Machine) (totals : List ℤ) (c : Command) (long : length totals ≡ 882) where
+module _ (m : Machine) (totals : List ℤ) (c : Command) (long : length totals ≡ TOTALS) where
   record-fits : ((id column : ℕ) → id ≤ 62 → column < 14
       → within (getD totals (totalAt id column) (pos 0) +ℤ added m c id column) ≡ true) → (bookedBy m totals c) .fits ≡ true
   unfolding bookedBy added
@@ -212,7 +212,7 @@ none-stays m totals all = record { each = λ n id column inside low. go n id col
     go zero id column = at-first m totals all id column
     go (suc n) id column = at-first m totals all id column
 
-module _ (m : Machine) (totals : List ℤ) (c : Command) (cs : List Command) (long : length totals ≡ 882) where
+module _ (m : Machine) (totals : List ℤ) (c : Command) (cs : List Command) (long : length totals ≡ TOTALS) where
   more-stays : AllWithin totals → (bookedBy m totals c) .fits ≡ true
       → StaysWithin (machineAfterStep m c) ((bookedBy m totals c) .totals) cs → StaysWithin m totals (c ∷ cs)
   more-stays all fit s = record { each = go }
@@ -270,10 +270,10 @@ fits-where-within m totals (c ∷ cs) long all = (
       fits-both m totals c cs long fit ∙ further .1 (rest-stays m totals c cs long fit s),
 )
   where
-    longer : (bookedBy m totals c) .fits ≡ true → length ((bookedBy m totals c) .totals) ≡ 882
+    longer : (bookedBy m totals c) .fits ≡ true → length ((bookedBy m totals c) .totals) ≡ TOTALS
     longer fit = record-adds m totals c 0 0 (omega arith) (omega arith) long fit .1
 
 pub file-fits-where-within : FileFitsWhereWithin
 unfolding fileTally
 file-fits-where-within lent input =
-    fits-where-within (startMachine lent) (replicate 882 (pos 0)) (commandsOf input) (length-replicate 882 (pos 0)) (zero-within 882)
+    fits-where-within (startMachine lent) (replicate TOTALS (pos 0)) (commandsOf input) (length-replicate TOTALS (pos 0)) (zero-within TOTALS)

@@ -20,7 +20,7 @@ use Rattle.control.specs.Starting.{StartGives}
 use Rattle.reach.specs.Reach.{leadsTo, directoryReached, linksTo}
 use Rattle.reach.specs.Index.{tableCount, linksFrom, linksOf, presentsOf, Indexes}
 use Rattle.trace.proofs.StartLaws.{start-machine}
-use Rattle.report.specs.Totals.{AllWithin}
+use Rattle.report.specs.Totals.{TOTALS, AllWithin}
 use Rattle.report.specs.Tallies.{ReplayStarts}
 
 zero-at : (n j : ℕ) → _≡_ {A = ℕ} (getD (replicate n 0) j 0) 0
@@ -67,7 +67,7 @@ pub zero-within : (n : ℕ) → AllWithin (replicate n (pos 0))
 zero-within n = record { each = λ i. subst (λ (z : ℤ). natAbs z ≤ 4294967295) (sym (zero-total n i)) (omega arith) }
 
 module _ (lent : List ℕ) (after : Buffer) (reply : Reply) (words links presents : List ℕ) (totals : List ℤ) (n k l s : ℕ) where
-  pub starts : length lent ≡ 64 → StartGives (Wide lent) after reply → n ≡ 16384 → k ≡ 16 → l ≡ 16 → s ≡ 882
+  pub starts : length lent ≡ 64 → StartGives (Wide lent) after reply → n ≡ 16384 → k ≡ 16 → l ≡ 16 → s ≡ TOTALS
       → words ≡ replicate n 0 → links ≡ replicate k 0 → presents ≡ replicate l 0 → totals ≡ replicate s (pos 0)
       → ReplayStarts (Wide lent) (reply .registers) after words links presents totals
   starts e g nq kq lq sq w x p t = record {

@@ -18,7 +18,7 @@ use Rattle.trace.specs.Steps.{stepReply, wordsAfterStep, machineAfterStep}
 use Rattle.trace.specs.Traces.{startMachine}
 use Rattle.trace.specs.declared.Command.{Command}
 use Rattle.trace.specs.declared.Command.the-variants.{Serve, Store, Set, Malformed}
-use Rattle.report.specs.Totals.{Gain, Booked, totalAt, booked, bookedWithin, bookedAll}
+use Rattle.report.specs.Totals.{TOTALS, Gain, Booked, totalAt, booked, bookedWithin, bookedAll}
 use Rattle.report.specs.Gains.{gain, hasColumn, faultColumn, faultGains, accessGains, storeGains, leafChange, gainsOf}
 use Rattle.report.specs.Tallies.{Tally, bookedBy, tallyStep, continued, tallyOf, fileTally}
 use Rattle.report.specs.Sums.{amountIn, added, sumOf, TotalsAreSums, FileTotalsAreSums}
@@ -73,7 +73,7 @@ module _ (id : ℕ) (g : Gain) (totals : List ℤ) where
       go false = refl
 
   -- its own total is the sum
-  booked-here : id ≤ 62 → g .column < 14 → length totals ≡ 882
+  booked-here : id ≤ 62 → g .column < 14 → length totals ≡ TOTALS
       → getD (booked id g totals) (totalAt id (g .column)) (pos 0) ≡ getD totals (totalAt id (g .column)) (pos 0) +ℤ g .amount
   unfolding booked totalAt
   booked-here h low long =
@@ -114,7 +114,7 @@ module _ (context id column : ℕ) (inside : id ≤ 62) (low : column < 14) wher
   abbrev all : List Gain → ℤ
   all gs = cond (eqb context id) (amountIn column gs) (pos 0)
 
-  pub booked-adds : (g : Gain) (totals : List ℤ) → g .column < 14 → length totals ≡ 882
+  pub booked-adds : (g : Gain) (totals : List ℤ) → g .column < 14 → length totals ≡ TOTALS
       → now (booked context g totals) ≡ now totals +ℤ one g
   booked-adds g totals has long = go (eqb context id) refl (eqb (g .column) column) refl
     where
@@ -152,8 +152,8 @@ module _ (context id column : ℕ) (inside : id ≤ 62) (low : column < 14) wher
       go false = refl
 
   -- amounts that all fit
-  books-add : (gs : List Gain) (totals : List ℤ) → Columned gs → length totals ≡ 882 → (bookedAll context gs totals) .fits ≡ true
-      → (now ((bookedAll context gs totals) .totals) ≡ now totals +ℤ all gs) × (length ((bookedAll context gs totals) .totals) ≡ 882)
+  books-add : (gs : List Gain) (totals : List ℤ) → Columned gs → length totals ≡ TOTALS → (bookedAll context gs totals) .fits ≡ true
+      → (now ((bookedAll context gs totals) .totals) ≡ now totals +ℤ all gs) × (length ((bookedAll context gs totals) .totals) ≡ TOTALS)
   unfolding bookedAll
   books-add [] totals h long e = (sym (+ℤ-idr (now totals)) ∙ ap (λ (z : ℤ). now totals +ℤ z) adds-none, long)
   books-add (g ∷ gs) totals h long e =
@@ -167,8 +167,8 @@ module _ (context id column : ℕ) (inside : id ≤ 62) (low : column < 14) wher
       stop = record { totals = booked context g totals; fits = false }
 
       go : (w : Bool) → (cond w rest stop) .fits ≡ true
-          → (rest .fits ≡ true → (now (rest .totals) ≡ now (booked context g totals) +ℤ all gs) × (length (rest .totals) ≡ 882))
-          → (now ((cond w rest stop) .totals) ≡ now totals +ℤ all (g ∷ gs)) × (length ((cond w rest stop) .totals) ≡ 882)
+          → (rest .fits ≡ true → (now (rest .totals) ≡ now (booked context g totals) +ℤ all gs) × (length (rest .totals) ≡ TOTALS))
+          → (now ((cond w rest stop) .totals) ≡ now totals +ℤ all (g ∷ gs)) × (length ((cond w rest stop) .totals) ≡ TOTALS)
       go true q ih = (
         ih q .0
             ∙ ap (λ (z : ℤ). z +ℤ all gs) (booked-adds g totals (h .0) long)
@@ -179,10 +179,10 @@ module _ (context id column : ℕ) (inside : id ≤ 62) (low : column < 14) wher
       go false q ih = absurd (true≢false (sym q))
 
 -- one record
-module _ (m : Machine) (totals : List ℤ) (c : Command) (id column : ℕ) (inside : id ≤ 62) (low : column < 14) (long : length totals ≡ 882)
+module _ (m : Machine) (totals : List ℤ) (c : Command) (id column : ℕ) (inside : id ≤ 62) (low : column < 14) (long : length totals ≡ TOTALS)
     (fit : (bookedBy m totals c) .fits ≡ true) where
   pub record-adds : (getD ((bookedBy m totals c) .totals) (totalAt id column) (pos 0)
-      ≡ getD totals (totalAt id column) (pos 0) +ℤ added m c id column) × (length ((bookedBy m totals c) .totals) ≡ 882)
+      ≡ getD totals (totalAt id column) (pos 0) +ℤ added m c id column) × (length ((bookedBy m totals c) .totals) ≡ TOTALS)
   unfolding bookedBy added
   record-adds = books-add (m .registers .context) id column inside low (gainsOf m c) totals (gains-columned m c) long fit
 
@@ -200,7 +200,7 @@ totals-are-sums m totals (c ∷ cs) id column inside low long e =
     stop b = record { machine = machineAfterStep m c; totals = (bookedBy m totals c) .totals; fits = b }
 
     go : (b : Bool) → (bookedBy m totals c) .fits ≡ b → (cond b rest (stop b)) .fits ≡ true
-        → (length ((bookedBy m totals c) .totals) ≡ 882 → rest .fits ≡ true
+        → (length ((bookedBy m totals c) .totals) ≡ TOTALS → rest .fits ≡ true
         → getD (rest .totals) (totalAt id column) (pos 0)
         ≡ getD ((bookedBy m totals c) .totals) (totalAt id column) (pos 0) +ℤ sumOf (machineAfterStep m c) cs id column)
         → getD ((cond b rest (stop b)) .totals) (totalAt id column) (pos 0)
@@ -215,6 +215,6 @@ totals-are-sums m totals (c ∷ cs) id column inside low long e =
 pub file-totals-are-sums : FileTotalsAreSums
 unfolding fileTally
 file-totals-are-sums lent input id column inside low e =
-    totals-are-sums (startMachine lent) (replicate 882 (pos 0)) (commandsOf input) id column inside low (length-replicate 882 (pos 0)) e
-    ∙ ap (λ (z : ℤ). z +ℤ sumOf (startMachine lent) (commandsOf input) id column) (zero-total 882 (totalAt id column))
+    totals-are-sums (startMachine lent) (replicate TOTALS (pos 0)) (commandsOf input) id column inside low (length-replicate TOTALS (pos 0)) e
+    ∙ ap (λ (z : ℤ). z +ℤ sumOf (startMachine lent) (commandsOf input) id column) (zero-total TOTALS (totalAt id column))
     ∙ +ℤ-idl (sumOf (startMachine lent) (commandsOf input) id column)

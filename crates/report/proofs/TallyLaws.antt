@@ -19,7 +19,7 @@ use Rattle.trace.specs.Steps.{machineAfterStep}
 use Rattle.trace.specs.declared.Command.{Command}
 use Rattle.trace.proofs.TraceLaws.{commands-more}
 use Rattle.trace.proofs.Blocks.{split, joined}
-use Rattle.report.specs.Totals.{Booked, AllWithin}
+use Rattle.report.specs.Totals.{TOTALS, Booked, AllWithin}
 use Rattle.report.specs.Ready.{Ready}
 use Rattle.report.specs.Tallies.{Tally, bookedBy, tallyStep, continued, tallyOf, InBlocks, CountGives}
 use Rattle.report.specs.declared.Counted.{Counted}
@@ -91,7 +91,7 @@ module _ (m₀ : Machine) (totals₀ : List ℤ) (input : List ℕ) where
 
   module _ (count : ℕ) (m : Machine) (links presents : List ℕ) (totals : List ℤ) (i : ℕ)
       (r : Replayed count m links presents totals i) where
-    pub replay-fits : length totals₀ ≡ 882 → tablesFit (m₀ .words) ≡ true → Ready (m .words) links presents totals
+    pub replay-fits : length totals₀ ≡ TOTALS → tablesFit (m₀ .words) ≡ true → Ready (m .words) links presents totals
     unfolding tablesFit
     replay-fits e f = record { fit = ap lengthFits (r .wide) ∙ f; indexed = r .indexed; columns = r .long ∙ e; in-limit = r .all }
 

@@ -14,7 +14,7 @@ use mir.Syntax.{w64}
 use mir.Val.{SFits, ofZ, toZ}
 use mir.ValLaws.{toZ-ofZ}
 use Rattle.runs.proofs.Bools.{clash}
-use Rattle.report.specs.Totals.{Gain, Booked, totalAt, booked, within, bookedWithin, bookedAll, AllWithin, BookGives, BookAllGives}
+use Rattle.report.specs.Totals.{TOTALS, Gain, Booked, totalAt, booked, within, bookedWithin, bookedAll, AllWithin, BookGives, BookAllGives}
 use Rattle.report.specs.Gains.{gain}
 
 -- the limit's test, in the code's words
@@ -88,7 +88,7 @@ module _ (id column : ℕ) (amount : ℤ) (totals : List ℤ) (all : AllWithin t
 
     pub book-done : (total : ℤ) (b : Bool)
         → total ≡ toZ w64 (ofZ w64 (toZ w64 (ofZ w64 (getD totals (14 * id + column) (pos 0))) +ℤ toZ w64 (ofZ w64 amount)))
-        → b ≡ within total → length totals ≡ 882 → column < 14 → id ≤ 62
+        → b ≡ within total → length totals ≡ TOTALS → column < 14 → id ≤ 62
         → BookGives id (gain column amount) totals b (set totals (14 * id + column) total)
     unfolding booked bookedWithin totalAt gain within
     book-done total b e test fits low h =

@@ -12,7 +12,7 @@ use Rattle.trace.specs.Commands.{commandsOf}
 use Rattle.trace.specs.Steps.{machineAfterStep}
 use Rattle.trace.specs.Traces.{startMachine}
 use Rattle.trace.specs.declared.Command.{Command}
-use Rattle.report.specs.Totals.{Gain, totalAt, within, AllWithin}
+use Rattle.report.specs.Totals.{TOTALS, Gain, totalAt, within, AllWithin}
 use Rattle.report.specs.Gains.{gainsOf}
 use Rattle.report.specs.Tallies.{tallyOf, fileTally}
 
@@ -32,7 +32,7 @@ sumOf m (c ∷ cs) id column = added m c id column +ℤ sumOf (machineAfterStep 
 
 -- Where no total passed the limit, each of the fourteen totals of identifications 0 to 62 is what it was before plus that sum.
 abbrev pub TotalsAreSums : Type 0
-TotalsAreSums = (m : Machine) (totals : List ℤ) (cs : List Command) (id column : ℕ) → id ≤ 62 → column < 14 → length totals ≡ 882 →
+TotalsAreSums = (m : Machine) (totals : List ℤ) (cs : List Command) (id column : ℕ) → id ≤ 62 → column < 14 → length totals ≡ TOTALS →
     (tallyOf m totals cs) .fits ≡ true →
     getD ((tallyOf m totals cs) .totals) (totalAt id column) (pos 0)
     ≡ getD totals (totalAt id column) (pos 0) +ℤ sumOf m cs id column
@@ -50,11 +50,11 @@ pub record StaysWithin (m : Machine) (totals : List ℤ) (cs : List Command) : T
 
 -- "a total past 4,294,967,295 either way stops that file": the tally fits exactly where no total is past the limit after any record.
 abbrev pub FitsWhereWithin : Type 0
-FitsWhereWithin = (m : Machine) (totals : List ℤ) (cs : List Command) → length totals ≡ 882 → AllWithin totals →
+FitsWhereWithin = (m : Machine) (totals : List ℤ) (cs : List Command) → length totals ≡ TOTALS → AllWithin totals →
     ((tallyOf m totals cs) .fits ≡ true → StaysWithin m totals cs) × (StaysWithin m totals cs → (tallyOf m totals cs) .fits ≡ true)
 
 -- the same of a file: it is not stopped exactly where every sum over its first records is within the limit
 abbrev pub FileFitsWhereWithin : Type 0
 FileFitsWhereWithin = (lent : Buffer) (input : List ℕ) →
-    ((fileTally lent input) .fits ≡ true → StaysWithin (startMachine lent) (replicate 882 (pos 0)) (commandsOf input))
-    × (StaysWithin (startMachine lent) (replicate 882 (pos 0)) (commandsOf input) → (fileTally lent input) .fits ≡ true)
+    ((fileTally lent input) .fits ≡ true → StaysWithin (startMachine lent) (replicate TOTALS (pos 0)) (commandsOf input))
+    × (StaysWithin (startMachine lent) (replicate TOTALS (pos 0)) (commandsOf input) → (fileTally lent input) .fits ≡ true)

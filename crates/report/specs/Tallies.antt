@@ -13,7 +13,7 @@ use Rattle.trace.specs.Commands.{commandsOf}
 use Rattle.trace.specs.Steps.{machineAfterStep}
 use Rattle.trace.specs.Traces.{startMachine}
 use Rattle.trace.specs.declared.Command.{Command}
-use Rattle.report.specs.Totals.{Booked, bookedAll, AllWithin}
+use Rattle.report.specs.Totals.{TOTALS, Booked, bookedAll, AllWithin}
 use Rattle.report.specs.Gains.{gainsOf}
 use Rattle.report.specs.declared.Counted.{Counted}
 
@@ -42,13 +42,13 @@ tallyOf m totals (c ∷ cs) = continued (tallyStep m totals c) (tallyOf (machine
 
 -- "each from the start state and zero tables": the tally of a file's bytes
 unfoldable pub fileTally : (lent : Buffer) (input : List ℕ) → Tally
-fileTally lent input = tallyOf (startMachine lent) (replicate 882 (pos 0)) (commandsOf input)
+fileTally lent input = tallyOf (startMachine lent) (replicate TOTALS (pos 0)) (commandsOf input)
 
 -- What the start of a replay promises, whatever was lent: the start state, zero tables with their index, and totals that are all 0.
 pub record ReplayStarts (lent : Buffer) (registers : Registers) (buffer : Buffer) (words links presents : List ℕ) (totals : List ℤ)
     : Type 0 where
   pub machine-is : record { registers = registers; buffer = buffer; words = words } ≡ startMachine lent
-  pub totals-are : totals ≡ replicate 882 (pos 0)
+  pub totals-are : totals ≡ replicate TOTALS (pos 0)
   pub indexed : Indexes words links presents
   pub in-limit : AllWithin totals
 

@@ -24,6 +24,10 @@ CHANGE = 13
 abbrev pub COLUMNS : ℕ
 COLUMNS = 14
 
+-- how many there are for the 63 identifications
+abbrev pub TOTALS : ℕ
+TOTALS = 63 * COLUMNS
+
 -- where the total of an identification stands
 unfoldable pub totalAt : (id column : ℕ) → ℕ
 totalAt id column = COLUMNS * id + column

@@ -5,13 +5,18 @@ ghost use Prim.Native.Nat.{_≤_};
 ghost use lib.ListN.{length};
 ghost use lib.IntN.{pos, _-ℤ_};
 ghost use Rattle.report.specs.Gains.{accessGains, faultColumn, gain, hasColumn};
-ghost use Rattle.report.specs.Totals.{AllWithin, BookAllGives, CHANGE, EMPTIED, LOADS, SERVED};
+ghost use Rattle.report.specs.Totals.{AllWithin, BookAllGives, CHANGE, EMPTIED, LOADS, SERVED, TOTALS};
 use crate::totals::book;
 use registers::Outcome;
 
+// The columns of the totals; those from 2 on are the faults'.
 const SERVED: u32 = 0;
 
 const LOADS: u32 = 1;
+
+const ABSENT: u32 = 10;
+
+const BROKEN: u32 = 11;
 
 const EMPTIED: u32 = 12;
 
@@ -21,7 +26,7 @@ const CHANGE: u32 = 13;
 fn has_column(kind: u32) -> bool
     ensures { λ b. ⌜ b ≡ hasColumn kind ⌝ }
 {
-    ((1 <= kind) & (kind <= 8)) | (kind == 16) | (kind == 32)
+    ((1 <= kind) & (kind <= 8)) | (kind == page_table::ABSENT) | (kind == page_table::BROKEN)
 }
 
 // The column of such a kind.
@@ -31,10 +36,10 @@ fn fault_column(kind: u32) -> u32
     if kind <= 8 {
         return kind + 1;
     }
-    if kind == 16 {
-        return 10;
+    if kind == page_table::ABSENT {
+        return ABSENT;
     }
-    11
+    BROKEN
 }
 
 // The number as a signed one.
@@ -55,7 +60,7 @@ fn difference(a: u32, b: u32) -> i64
 
 // An accepted access counts once, with its loads.
 fn book_served(totals: &mut [i64], id: u32, loads: u32) -> bool
-    requires { ⌜ (length (now totals) ≡ 882) × AllWithin (now totals) ⌝ }
+    requires { ⌜ (length (now totals) ≡ TOTALS) × AllWithin (now totals) ⌝ }
     ensures { λ b. ⌜ BookAllGives id (gain SERVED (pos 1) ∷ gain LOADS (pos loads) ∷ []) (now (totals .entry)) b (now (totals .exit)) ⌝ }
 {
     if !book(totals, id, SERVED, 1) {
@@ -67,7 +72,7 @@ fn book_served(totals: &mut [i64], id: u32, loads: u32) -> bool
 
 // A fault counts by its kind as well, wherever its walk stopped.
 fn book_fault(totals: &mut [i64], id: u32, value: u32, loads: u32) -> bool
-    requires { ⌜ (length (now totals) ≡ 882) × AllWithin (now totals) ⌝ }
+    requires { ⌜ (length (now totals) ≡ TOTALS) × AllWithin (now totals) ⌝ }
     ensures { λ b. ⌜ BookAllGives id (accessGains (Outcome.Fault value) loads) (now (totals .entry)) b (now (totals .exit)) ⌝ }
 {
     if !book_served(totals, id, loads) {
@@ -83,7 +88,7 @@ fn book_fault(totals: &mut [i64], id: u32, value: u32, loads: u32) -> bool
 
 // Books what an access gives, by its outcome; a refused one gives nothing.
 pub(crate) fn book_access(totals: &mut [i64], id: u32, outcome: Outcome, loads: u32) -> bool
-    requires { ⌜ (length (now totals) ≡ 882) × AllWithin (now totals) ⌝ }
+    requires { ⌜ (length (now totals) ≡ TOTALS) × AllWithin (now totals) ⌝ }
     ensures { λ b. ⌜ BookAllGives id (accessGains outcome loads) (now (totals .entry)) b (now (totals .exit)) ⌝ }
 {
     match outcome {
@@ -96,7 +101,7 @@ pub(crate) fn book_access(totals: &mut [i64], id: u32, outcome: Outcome, loads: 
 
 // Books what an accepted store gives: the slots that it emptied, and leaf words after minus leaf words before.
 pub(crate) fn book_store(totals: &mut [i64], id: u32, emptied: u32, before: u32, after: u32) -> bool
-    requires { ⌜ (length (now totals) ≡ 882) × AllWithin (now totals) ⌝ }
+    requires { ⌜ (length (now totals) ≡ TOTALS) × AllWithin (now totals) ⌝ }
     ensures { λ b. ⌜ BookAllGives id (gain EMPTIED (pos emptied) ∷ gain CHANGE (pos after -ℤ pos before) ∷ [])
         (now (totals .entry)) b (now (totals .exit)) ⌝ }
 {

@@ -3,7 +3,9 @@ ghost use mathlib.Core.Path.{_≡_};
 ghost use lib.IntN.{pos};
 ghost use lib.ListN.{length, replicate};
 ghost use Rattle.slots.specs.Buffer.{Buffer};
+ghost use Rattle.trace.specs.Traces.{WORDS};
 ghost use Rattle.report.specs.Tallies.{ReplayStarts};
+ghost use Rattle.report.specs.Totals.{TOTALS};
 use registers::Registers;
 
 // Every number of a run becomes 0.
@@ -38,8 +40,8 @@ pub fn start(
     presents: &mut [u32],
     totals: &mut [i64],
 ) -> Registers
-    requires { ⌜ (length (now buffer) ≡ 64) × (length (now words) ≡ 16384) × (length (now links) ≡ 16) × (length (now presents) ≡ 16)
-        × (length (now totals) ≡ 882) ⌝ }
+    requires { ⌜ (length (now buffer) ≡ 64) × (length (now words) ≡ WORDS) × (length (now links) ≡ 16) × (length (now presents) ≡ 16)
+        × (length (now totals) ≡ TOTALS) ⌝ }
     ensures { λ r. ⌜ ReplayStarts (Buffer.Wide (now (buffer .entry))) r (Buffer.Wide (now (buffer .exit)))
         (now (words .exit)) (now (links .exit)) (now (presents .exit)) (now (totals .exit)) ⌝ }
 {

@@ -5,7 +5,7 @@ ghost use Rattle.slots.specs.Buffer.{Buffer};
 ghost use Rattle.trace.specs.declared.Command.{Command as Asked};
 ghost use Rattle.report.specs.Ready.{Ready};
 ghost use Rattle.report.specs.Tallies.{AccessCountGives, CountGives, PlainCountGives, tallyStep};
-ghost use Rattle.report.specs.Totals.{AllWithin};
+ghost use Rattle.report.specs.Totals.{AllWithin, TOTALS};
 use crate::Counted;
 use crate::gains::book_access;
 use crate::gains::book_store;
@@ -32,7 +32,7 @@ fn count_access(
     totals: &mut [i64],
     access: Access,
 ) -> Counted
-    requires { ⌜ (length (now totals) ≡ 882) × AllWithin (now totals) ⌝ }
+    requires { ⌜ (length (now totals) ≡ TOTALS) × AllWithin (now totals) ⌝ }
     ensures { λ s. ⌜ AccessCountGives
         (tallyStep (record { registers = r; buffer = Buffer.Wide (now (buffer .entry)); words = now (words .entry) })
         (now (totals .entry)) (Asked.Serve access))

@@ -19,6 +19,7 @@ use Rattle.trace.specs.Commands.{recordCount, commandsOf, commandsFrom}
 use Rattle.trace.specs.Traces.{startMachine}
 use Rattle.report.specs.Ready.{Ready}
 use Rattle.report.specs.Tallies.{Tally, continued, tallyOf, CountGives, ReplayStarts}
+use Rattle.report.specs.Totals.{TOTALS}
 use Rattle.report.proofs.TallyLaws.{in-blocks}
 use Rattle.reporting.specs.Files.{Fills}
 use Rattle.reporting.specs.Blocks.{RECORDS, BYTES, BlockGives}
@@ -50,7 +51,7 @@ ready-again words after links presents totals totals′ t registers fits buffer 
 
 -- a replay at its start
 pub ready-first : (lent : Buffer) (registers : Registers) (buffer : Buffer) (words links presents : List ℕ) (totals : List ℤ)
-    → length words ≡ 16384 → length totals ≡ 882 → ReplayStarts lent registers buffer words links presents totals
+    → length words ≡ 16384 → length totals ≡ TOTALS → ReplayStarts lent registers buffer words links presents totals
     → Ready words links presents totals
 unfolding tablesFit lengthFits
 ready-first lent registers buffer words links presents totals w t s =
@@ -196,9 +197,9 @@ pub from-start : (lent : Buffer) (registers : Registers) (buffer : Buffer) (word
     → ReplayStarts lent registers buffer words links presents totals
     → (p : Replayed) (buffer₁ : Buffer) (words₁ links₁ presents₁ : List ℕ) (totals₁ : List ℤ) (input₁ : List ℕ)
     → ReplayGives (record { registers = registers; buffer = buffer; words = words }) totals p buffer₁ words₁ links₁ presents₁ totals₁ input₁
-    → ReplayGives (startMachine lent) (replicate 882 (pos 0)) p buffer₁ words₁ links₁ presents₁ totals₁ input₁
+    → ReplayGives (startMachine lent) (replicate TOTALS (pos 0)) p buffer₁ words₁ links₁ presents₁ totals₁ input₁
 from-start lent registers buffer words links presents totals s p buffer₁ words₁ links₁ presents₁ totals₁ input₁ g =
-    subst (λ (m : Machine). ReplayGives m (replicate 882 (pos 0)) p buffer₁ words₁ links₁ presents₁ totals₁ input₁) (s .machine-is)
+    subst (λ (m : Machine). ReplayGives m (replicate TOTALS (pos 0)) p buffer₁ words₁ links₁ presents₁ totals₁ input₁) (s .machine-is)
     (subst (λ (t : List ℤ). ReplayGives (record { registers = registers; buffer = buffer; words = words }) t p buffer₁ words₁ links₁
     presents₁
     totals₁ input₁)

@@ -16,6 +16,7 @@ use Rattle.line.specs.Text.{TextPut, Begins}
 use Rattle.line.proofs.TextLaws.{put-begins}
 use Rattle.rows.specs.Rows.{unreadText}
 use Rattle.trace.specs.Traces.{startMachine}
+use Rattle.report.specs.Totals.{TOTALS}
 use Rattle.reporting.specs.Replays.{ReplayGives}
 use Rattle.reporting.specs.Endings.{endingOf, endingText}
 use Rattle.reporting.specs.Reports.{FileGives, FilePut, LastFile, ReportGives}
@@ -26,7 +27,7 @@ use Rattle.reporting.specs.declared.Replayed.{Replayed}
 -- a file that was replayed, and the lines of its ending
 pub file-gives : (lent : List ℕ) (number n : ℕ) (buffer : Buffer) (words links presents : List ℕ) (totals : List ℤ)
     (input out after : List ℕ) (p : Replayed) (ending : Ending) → length lent ≡ 64
-    → ReplayGives (startMachine (Wide lent)) (replicate 882 (pos 0)) p buffer words links presents totals input
+    → ReplayGives (startMachine (Wide lent)) (replicate TOTALS (pos 0)) p buffer words links presents totals input
     → ending ≡ endingOf (p .last .fits) (p .last .failed) → TextPut out 0 (endingText number totals ending) n after
     → FileGives number (record { replayed = p; length = n }) words input after
 unfolding bufferFits

@@ -9,7 +9,9 @@ use lib.IntN.{ℤ}
 use Rattle.slots.specs.Buffer.{Buffer}
 use Rattle.store.specs.Machine.{Machine}
 use Rattle.trace.specs.Commands.{commandsOf}
+use Rattle.trace.specs.Traces.{WORDS}
 use Rattle.report.specs.Tallies.{tallyOf, CountGives}
+use Rattle.report.specs.Totals.{TOTALS}
 use Rattle.reporting.specs.declared.Block.{Block}
 
 -- a full block's records and bytes: a record has 8
@@ -22,7 +24,7 @@ BYTES = 8 * RECORDS
 -- the runs that are lent to a replay: the buffer, the tables with their index, the totals, and a run that a block is read into
 abbrev pub RunsFit : (buffer words links presents : List ℕ) (totals : List ℤ) (input : List ℕ) → Type 0
 RunsFit buffer words links presents totals input =
-    (length buffer ≡ 64) × (length words ≡ 16384) × (length links ≡ 16) × (length presents ≡ 16) × (length totals ≡ 882)
+    (length buffer ≡ 64) × (length words ≡ WORDS) × (length links ≡ 16) × (length presents ≡ 16) × (length totals ≡ TOTALS)
     × (length input ≡ BYTES)
 
 -- What a block promises: registers, runs and totals are those after the records of the bytes that were read, from the machine and the

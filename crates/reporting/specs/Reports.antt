@@ -9,16 +9,21 @@ use lib.IntN.{ℤ, pos}
 use Rattle.slots.specs.Buffer.{Buffer, bufferFits}
 use Rattle.line.specs.Text.{Begins}
 use Rattle.rows.specs.Rows.{unreadText}
-use Rattle.trace.specs.Traces.{startMachine}
+use Rattle.trace.specs.Traces.{WORDS, startMachine}
+use Rattle.report.specs.Totals.{TOTALS}
 use Rattle.reporting.specs.Blocks.{BYTES}
 use Rattle.reporting.specs.Replays.{ReplayGives}
 use Rattle.reporting.specs.Endings.{endingOf, endingText}
 use Rattle.reporting.specs.declared.Filed.{Filed}
 use Rattle.reporting.specs.declared.Reported.{Reported}
 
+-- room for a file's lines: 63 of at most 318 bytes
+abbrev pub ROOM : ℕ
+ROOM = 20480
+
 -- the runs that are lent to a report: the tables, a run that a block is read into, and one with room for a file's lines
 abbrev pub ReportFits : (words input out : List ℕ) → Type 0
-ReportFits words input out = (length words ≡ 16384) × (length input ≡ BYTES) × (length out ≡ 20480)
+ReportFits words input out = (length words ≡ WORDS) × (length input ≡ BYTES) × (length out ≡ ROOM)
 
 -- "each from the start state and zero tables": an open file was replayed so, whatever was lent, and the output begins with the lines of
 -- how it ended
@@ -29,7 +34,7 @@ pub record FileGives (number : ℕ) (f : Filed) (words-after input-after out-aft
   pub links : List ℕ
   pub presents : List ℕ
   pub totals : List ℤ
-  pub replay : ReplayGives (startMachine lent) (replicate 882 (pos 0)) (f .replayed) buffer words-after links presents totals input-after
+  pub replay : ReplayGives (startMachine lent) (replicate TOTALS (pos 0)) (f .replayed) buffer words-after links presents totals input-after
   pub lines : Begins out-after (f .length) (endingText number totals (endingOf (f .replayed .last .fits) (f .replayed .last .failed)))
 
 -- one that can't be opened is unread, and has no block

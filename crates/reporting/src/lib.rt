@@ -6,6 +6,8 @@ mod replays;
 mod reports;
 
 use registers::Registers;
+pub use replays::BLOCK;
+pub use reports::ROOM;
 pub use reports::run;
 
 // After a block: the registers, whether every total is within the limit, how many bytes were read, whether a read failed, and whether one

@@ -5,12 +5,16 @@ ghost use lib.ListN.{length};
 ghost use Rattle.line.specs.Text.{TextPut};
 ghost use Rattle.reporting.specs.Blocks.{RunsFit};
 ghost use Rattle.reporting.specs.Endings.{endingOf, endingText};
-ghost use Rattle.reporting.specs.Reports.{FileGives, FilePut, ReportFits};
+ghost use Rattle.reporting.specs.Reports.{FileGives, FilePut, ROOM, ReportFits};
+ghost use Rattle.report.specs.Totals.{TOTALS};
 use crate::Block;
 use crate::Ending;
 use crate::Filed;
 use crate::Replayed;
 use crate::replays::count_file;
+
+// How many totals a file has.
+const TOTALS: usize = rows::LINES * rows::COLUMNS;
 
 fn ending_of(fits: bool, failed: bool) -> Ending
     ensures { λ e. ⌜ e ≡ endingOf fits failed ⌝ }
@@ -26,7 +30,7 @@ fn ending_of(fits: bool, failed: bool) -> Ending
 
 // Puts the lines of a file that ended so.
 fn put_ending(out: &mut [u8], number: u64, totals: &[i64], ending: Ending) -> usize
-    requires { ⌜ (length (now out) ≡ 20480) × (length (now totals) ≡ 882) ⌝ }
+    requires { ⌜ (length (now out) ≡ ROOM) × (length (now totals) ≡ TOTALS) ⌝ }
     ensures text { λ n. ⌜ TextPut (now (out .entry)) 0 (endingText number (now (totals .entry)) ending) n (now (out .exit)) ⌝ }
     ensures room { λ n. ⌜ n ≤ length (now (out .exit)) ⌝ }
 {
@@ -49,7 +53,7 @@ fn put_counted(
     input: &mut [u8],
     out: &mut [u8],
 ) -> Filed
-    requires { ⌜ RunsFit (now buffer) (now words) (now links) (now presents) (now totals) (now input) × (length (now out) ≡ 20480) ⌝ }
+    requires { ⌜ RunsFit (now buffer) (now words) (now links) (now presents) (now totals) (now input) × (length (now out) ≡ ROOM) ⌝ }
     ensures lines { λ f. ⌜ FileGives number f (now (words .exit)) (now (input .exit)) (now (out .exit)) ⌝ }
     ensures room { λ f. ⌜ f .length ≤ length (now (out .exit)) ⌝ }
 {
@@ -69,7 +73,7 @@ fn put_open(fd: i32, number: u64, words: &mut [u32], input: &mut [u8], out: &mut
     let mut buffer = [0u64; 64];
     let mut links = [0u32; 16];
     let mut presents = [0u32; 16];
-    let mut totals = [0i64; 882];
+    let mut totals = [0i64; TOTALS];
     put_counted(
         fd,
         number,

@@ -5,6 +5,7 @@ ghost use lib.ListN.{length, replicate};
 ghost use Rattle.slots.specs.Buffer.{Buffer};
 ghost use Rattle.trace.specs.Traces.{startMachine};
 ghost use Rattle.report.specs.Ready.{Ready};
+ghost use Rattle.report.specs.Totals.{TOTALS};
 ghost use Rattle.reporting.specs.Blocks.{BYTES, RunsFit};
 ghost use Rattle.reporting.specs.Replays.{ReplayGives, beforeFirst, goesOn};
 use crate::Block;
@@ -12,11 +13,11 @@ use crate::Replayed;
 use crate::blocks::count_block;
 use registers::Registers;
 
-// A full block has 8,192 records.
-const BLOCK: usize = 65536;
+// A full block has 8,192 records of eight bytes.
+pub const BLOCK: usize = 8 * 8192;
 
 // The most blocks of a file.
-const MOST: u64 = 18446744073709551615;
+const MOST: u64 = u64::MAX;
 
 // Whether a block is followed by another, where there are so many: it is full, no read failed, and every total is within the limit.
 fn goes_on(b: Block, blocks: u64) -> bool
@@ -77,7 +78,7 @@ pub(crate) fn count_file(
     input: &mut [u8],
 ) -> Replayed
     requires { ⌜ RunsFit (now buffer) (now words) (now links) (now presents) (now totals) (now input) ⌝ }
-    ensures { λ p. ⌜ ReplayGives (startMachine (Buffer.Wide (now (buffer .entry)))) (replicate 882 (pos 0)) p
+    ensures { λ p. ⌜ ReplayGives (startMachine (Buffer.Wide (now (buffer .entry)))) (replicate TOTALS (pos 0)) p
         (Buffer.Wide (now (buffer .exit))) (now (words .exit)) (now (links .exit)) (now (presents .exit)) (now (totals .exit))
         (now (input .exit)) ⌝ }
 {

@@ -6,6 +6,9 @@ use crate::Reported;
 use crate::lines::put_lines;
 use crate::lines::unopened;
 
+// Room for the lines of a file: 63 of at most 318 bytes.
+pub const ROOM: usize = 20480;
+
 // After a file: what it gave, and whether its lines could be written.
 struct Lines {
     file: Filed,

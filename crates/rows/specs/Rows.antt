@@ -5,6 +5,20 @@ use lib.IntN.{ℤ, pos, negsuc}
 use lib.ListN.{getD}
 use Rattle.line.specs.Text.{ascii, decimal}
 
+-- how many totals an identification has, how many identifications there are, and how many totals in all
+abbrev pub COLUMNS : ℕ
+COLUMNS = 14
+
+abbrev pub LINES : ℕ
+LINES = 63
+
+abbrev pub TOTALS : ℕ
+TOTALS = LINES * COLUMNS
+
+-- how many bytes a line has at most
+abbrev pub ROW : ℕ
+ROW = 318
+
 -- a total in decimal, with a minus sign below zero
 unfoldable pub signed : ℤ → List ℕ
 signed (pos n) = decimal n
@@ -25,7 +39,7 @@ rowHead number id = decimal number ++ ascii " " ++ decimal id
 
 -- an identification's line: the file's number, the identification, its fourteen totals
 unfoldable pub rowOf : (number id : ℕ) (totals : List ℤ) → List ℕ
-rowOf number id totals = rowHead number id ++ totalsText totals (14 * id) 14 ++ ascii "\n"
+rowOf number id totals = rowHead number id ++ totalsText totals (COLUMNS * id) COLUMNS ++ ascii "\n"
 
 -- the lines of the first n identifications
 unfoldable pub rowsOf : (number n : ℕ) (totals : List ℤ) → List ℕ
@@ -34,7 +48,7 @@ rowsOf number (suc n) totals = rowsOf number n totals ++ rowOf number n totals
 
 -- "Each file gives 63 lines, identifications 0 to 62"
 unfoldable pub reportOf : (number : ℕ) (totals : List ℤ) → List ℕ
-reportOf number totals = rowsOf number 63 totals
+reportOf number totals = rowsOf number LINES totals
 
 -- a file that was stopped
 unfoldable pub refusedText : (number : ℕ) → List ℕ

@@ -3,7 +3,8 @@ ghost use mathlib.Core.Path.{_≡_};
 ghost use Prim.Native.Nat.{_+_, _*_, _≤_, _<_};
 ghost use lib.ListN.{length};
 ghost use Rattle.line.specs.Text.{TextPut};
-ghost use Rattle.rows.specs.Rows.{rowHead, rowOf, signed, totalText, totalsText};
+ghost use Rattle.rows.specs.Rows.{COLUMNS, LINES, ROW, TOTALS, rowHead, rowOf, signed, totalText, totalsText};
+use crate::COLUMNS;
 use line::put_decimal;
 use line::put_text;
 
@@ -32,13 +33,13 @@ fn put_total(out: &mut [u8], at: usize, n: i64) -> usize
 
 // Writes the fourteen totals from an index on.
 fn put_totals(out: &mut [u8], at: usize, totals: &[i64], from: usize) -> usize
-    requires { ⌜ (at + 294 ≤ length (now out)) × (from + 14 ≤ length (now totals)) ⌝ }
-    ensures text { λ behind. ⌜ TextPut (now (out .entry)) at (totalsText (now (totals .entry)) from 14) behind (now (out .exit)) ⌝ }
+    requires { ⌜ (at + 294 ≤ length (now out)) × (from + COLUMNS ≤ length (now totals)) ⌝ }
+    ensures text { λ behind. ⌜ TextPut (now (out .entry)) at (totalsText (now (totals .entry)) from COLUMNS) behind (now (out .exit)) ⌝ }
     ensures room { λ behind. ⌜ behind ≤ at + 294 ⌝ }
 {
     let mut to = at;
     let mut i: usize = 0;
-    while i < 14 {
+    while i < COLUMNS {
         let total = totals[from + i];
         to = put_total(out, to, total);
         i += 1;
@@ -48,7 +49,7 @@ fn put_totals(out: &mut [u8], at: usize, totals: &[i64], from: usize) -> usize
 
 // Writes the file's number and an identification, with a space between.
 fn put_head(out: &mut [u8], at: usize, number: u64, id: usize) -> usize
-    requires { ⌜ (at + 23 ≤ length (now out)) × (id < 63) ⌝ }
+    requires { ⌜ (at + 23 ≤ length (now out)) × (id < LINES) ⌝ }
     ensures text { λ behind. ⌜ TextPut (now (out .entry)) at (rowHead number id) behind (now (out .exit)) ⌝ }
     ensures room { λ behind. ⌜ behind ≤ at + 23 ⌝ }
 {
@@ -59,11 +60,11 @@ fn put_head(out: &mut [u8], at: usize, number: u64, id: usize) -> usize
 
 // Writes an identification's line: the file's number, the identification, its fourteen totals.
 pub(crate) fn put_row(out: &mut [u8], at: usize, number: u64, id: usize, totals: &[i64]) -> usize
-    requires { ⌜ (at + 318 ≤ length (now out)) × (id < 63) × (length (now totals) ≡ 882) ⌝ }
+    requires { ⌜ (at + ROW ≤ length (now out)) × (id < LINES) × (length (now totals) ≡ TOTALS) ⌝ }
     ensures text { λ behind. ⌜ TextPut (now (out .entry)) at (rowOf number id (now (totals .entry))) behind (now (out .exit)) ⌝ }
-    ensures room { λ behind. ⌜ behind ≤ at + 318 ⌝ }
+    ensures room { λ behind. ⌜ behind ≤ at + ROW ⌝ }
 {
     let space = put_head(out, at, number, id);
-    let end = put_totals(out, space, totals, 14 * id);
+    let end = put_totals(out, space, totals, COLUMNS * id);
     put_text(out, end, b"\n")
 }

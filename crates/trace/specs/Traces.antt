@@ -24,8 +24,11 @@ machineAfter m [] = m
 machineAfter m (c ∷ cs) = machineAfter (machineAfterStep m c) cs
 
 -- the start state; "Table memory is 16,384 words, all zero at first"
+abbrev pub WORDS : ℕ
+WORDS = 16384
+
 unfoldable pub startMachine : Buffer → Machine
-startMachine lent = record { registers = zeroRegisters; buffer = startBuffer lent; words = replicate 16384 0 }
+startMachine lent = record { registers = zeroRegisters; buffer = startBuffer lent; words = replicate WORDS 0 }
 
 -- what the program prints for an input; the lent buffer's numbers at first do not matter
 unfoldable pub traceText : (lent : Buffer) (input : List ℕ) → List ℕ

@@ -7,6 +7,11 @@ use registers::Access;
 // The register that each kind sets: 2 CONTEXT, 3 CTRL, 4 KSEG, 5 KBASE_LO, 6 KBASE_HI, 7 ENABLE. Kinds 0 and 1 set none.
 const SETTINGS: [u32; 8] = [0, 0, 5, 1, 0, 3, 4, 2];
 
+// How many values an index has, of 24 bits, and a value, of 32.
+const INDEXES: u64 = 1 << 24;
+
+const VALUES: u64 = 1 << 32;
+
 // User, write and draw are 0.
 fn is_plain(bits: u64) -> bool
     ensures { λ b. ⌜ b ≡ isPlain bits ⌝ }
@@ -21,7 +26,7 @@ fn well_formed(bits: u64) -> bool
     ensures { λ b. ⌜ b ≡ wellFormed bits ⌝ }
 {
     let kind = (bits >> 60) % 16;
-    let index = (bits >> 32) % 16777216;
+    let index = (bits >> 32) % INDEXES;
     (kind <= 7) & ((kind == 0) | is_plain(bits)) & ((kind == 1) | (index == 0))
 }
 
@@ -33,8 +38,8 @@ pub fn command_of(bits: u64) -> Command
         return Command::Malformed;
     }
     let kind = (bits >> 60) % 16;
-    let index = ((bits >> 32) % 16777216) as u32;
-    let value = (bits % 4294967296) as u32;
+    let index = ((bits >> 32) % INDEXES) as u32;
+    let value = (bits % VALUES) as u32;
     if kind == 0 {
         return Command::Serve(Access {
             address: value,

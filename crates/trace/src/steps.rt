@@ -4,6 +4,7 @@ ghost use Rattle.trace.specs.Steps.{StepGives};
 use crate::Command;
 use registers::Registers;
 use registers::Reply;
+use registers::refusals;
 
 // Makes a command's call. A malformed record is refused with number 8.
 pub fn step(r: Registers, buffer: &mut [u64], words: &mut [u32], command: Command) -> Reply
@@ -17,6 +18,6 @@ pub fn step(r: Registers, buffer: &mut [u64], words: &mut [u32], command: Comman
         }
         Command::Store(index, value) => store::table_store(r, buffer, words, index, value),
         Command::Set(number, value) => control::guarded_setting(r, number, value),
-        Command::Malformed => registers::refused(r, 8),
+        Command::Malformed => registers::refused(r, refusals::RECORD),
     }
 }

@@ -1,6 +1,6 @@
 // A run of records.
 ghost use mathlib.Core.Path.{_≡_};
-ghost use Prim.Native.Nat.{_+_, _*_, _≤_, _<_};
+ghost use Prim.Native.Nat.{_+_, _*_, _^_, _≤_, _<_};
 ghost use lib.ListN.{length};
 ghost use Rattle.slots.specs.Buffer.{Buffer};
 ghost use Rattle.trace.specs.Commands.{commandAt, recordCount};
@@ -29,7 +29,7 @@ pub fn run(
     input: &[u8],
     out: &mut [u8],
 ) -> Ran
-    requires { ⌜ (49 * recordCount (length (now input)) ≤ length (now out)) × (number + length (now input) < 18446744073709551616) ⌝ }
+    requires { ⌜ (49 * recordCount (length (now input)) ≤ length (now out)) × (number + length (now input) < 2 ^ 64) ⌝ }
     ensures lines { λ ran. ⌜ RunGives
         (record { registers = r; buffer = Buffer.Wide (now (buffer .entry)); words = now (words .entry) })
         number (now (input .entry)) (now (out .entry)) ran

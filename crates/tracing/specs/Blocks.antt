@@ -23,7 +23,7 @@ LAST = 18446744073709500000
 
 -- the run that a block is read into, and one with room for its lines, of at most 49 bytes each
 abbrev pub LinesFit : (input out : List ℕ) → Type 0
-LinesFit input out = (length input ≡ BYTES) × (length out ≡ 50176)
+LinesFit input out = (length input ≡ BYTES) × (length out ≡ 49 * RECORDS)
 
 -- What a block promises: registers, runs and the next record's number are those after the records of the bytes that were read, from the
 -- machine and the number that it was handed; the output begins with these records' lines, and the answer has their length. Which bytes a

@@ -3,6 +3,8 @@ mod blocks;
 mod traces;
 
 use registers::Registers;
+pub use traces::BLOCK;
+pub use traces::ROOM;
 pub use traces::run;
 pub use traces::run_blocks;
 

@@ -2,15 +2,18 @@
 ghost use mathlib.Core.Path.{_≡_};
 ghost use lib.ListN.{length, replicate};
 ghost use Rattle.slots.specs.Buffer.{Buffer};
-ghost use Rattle.trace.specs.Traces.{startMachine};
+ghost use Rattle.trace.specs.Traces.{WORDS, startMachine};
 ghost use Rattle.tracing.specs.Blocks.{LinesFit};
 ghost use Rattle.tracing.specs.Traces.{TraceGives, goesOn};
 use crate::Block;
 use crate::blocks::run_block;
 use registers::Registers;
 
-// A full block has 1,024 records.
-const BLOCK: usize = 8192;
+// A full block has 1,024 records of eight bytes.
+pub const BLOCK: usize = 8 * 1024;
+
+// Room for the lines of a full block, of at most 49 bytes each.
+pub const ROOM: usize = 49 * 1024;
 
 // No block begins behind this record number.
 const LAST: u64 = 18446744073709500000;
@@ -46,7 +49,7 @@ pub fn run_blocks(
 
 // Runs the trace on standard input, from the start over zero tables.
 pub fn run(buffer: &mut [u64], words: &mut [u32], input: &mut [u8], out: &mut [u8]) -> Block
-    requires { ⌜ (length (now buffer) ≡ 64) × (now words ≡ replicate 16384 0) × LinesFit (now input) (now out) ⌝ }
+    requires { ⌜ (length (now buffer) ≡ 64) × (now words ≡ replicate WORDS 0) × LinesFit (now input) (now out) ⌝ }
     ensures { λ b. ⌜ TraceGives (startMachine (Buffer.Wide (now (buffer .entry)))) b
         (Buffer.Wide (now (buffer .exit))) (now (words .exit)) (now (input .exit)) (now (out .exit)) ⌝ }
 {
