@@ -12,6 +12,13 @@ use Rattle.slots.specs.Buffer.Buffer.{Wide}
 use Rattle.store.specs.Machine.{Machine}
 use Rattle.table_bytes.specs.TableBytes.{wordsOf}
 
+-- how many bytes registers and buffer have
+abbrev pub REGISTER_BYTES : ℕ
+REGISTER_BYTES = 44
+
+abbrev pub BUFFER_BYTES : ℕ
+BUFFER_BYTES = 512
+
 -- "the registers as 44: four for each number 0 to 9, then four for exception value × 2 + write bit"
 unfoldable pub registersOf : (bytes : List ℕ) → Registers
 registersOf bytes = fromWords (decoded 4 bytes FIELDS)
@@ -28,7 +35,7 @@ bufferBytes (Wide numbers) = encoded 8 numbers
 
 -- "a wrong byte length is number 1 for the registers"
 unfoldable pub registersLong : (bytes : List ℕ) → Bool
-registersLong bytes = eqb (length bytes) 44
+registersLong bytes = eqb (length bytes) REGISTER_BYTES
 
 -- and so is a field that exceeds its bits
 unfoldable pub registersTaken : (bytes : List ℕ) → Bool
@@ -36,7 +43,7 @@ registersTaken bytes = registersLong bytes && registersFit (registersOf bytes)
 
 -- "2 for the buffer"
 unfoldable pub bufferTaken : (bytes : List ℕ) → Bool
-bufferTaken bytes = eqb (length bytes) 512
+bufferTaken bytes = eqb (length bytes) BUFFER_BYTES
 
 -- "and 3 for the tables": 4,096 to 65,536 bytes, in multiples of 4,096, which are 1,024 words
 unfoldable pub lengthTaken : (length : ℕ) → Bool

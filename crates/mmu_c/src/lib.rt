@@ -7,13 +7,14 @@ pub mod table_store;
 
 ghost use mathlib.Core.Bool.{true};
 ghost use mathlib.Core.Path.{_≡_};
-ghost use Prim.Native.Nat.{_≤_, _<_};
+ghost use Prim.Native.Nat.{_^_, _≤_, _<_};
 ghost use lib.ListN.{length};
 ghost use Rattle.runs.specs.Bits.{bit};
 ghost use Rattle.entry.specs.Address.{vpnOf};
 ghost use Rattle.access.specs.Translation.{Accepted, translate};
 ghost use Rattle.mmu_c.specs.Answers.{accessAnswer, outcomeFits, refusalAnswer, replyAnswer, translationAnswer};
 ghost use Rattle.mmu_c.specs.Location.{Fetched};
+ghost use Rattle.mmu_c.specs.Runs.{BUFFER_BYTES, REGISTER_BYTES};
 ghost use Rattle.mmu_c.specs.Runs.{bufferOf, bufferTaken, registerBytes, registersOf, registersTaken, tablesTaken};
 use access::Physical;
 use access::Translation;
@@ -23,20 +24,29 @@ use registers::Registers;
 use registers::Reply;
 
 // The weights of the answer's fields.
-const BIT_32: u64 = 4294967296;
+const BIT_32: u64 = 1 << 32;
 
-const BIT_48: u64 = 281474976710656;
+const BIT_48: u64 = 1 << 48;
 
-const BIT_52: u64 = 4503599627370496;
+const BIT_52: u64 = 1 << 52;
 
-const BIT_53: u64 = 9007199254740992;
+const BIT_53: u64 = 1 << 53;
 
-const BIT_54: u64 = 18014398509481984;
+const BIT_54: u64 = 1 << 54;
 
-const BIT_56: u64 = 72057594037927936;
+const BIT_56: u64 = 1 << 56;
+
+// How many bytes the registers have, the buffer, and the shortest and the longest tables.
+const REGISTER_BYTES: usize = 44;
+
+const BUFFER_BYTES: usize = 512;
+
+const LEAST_TABLE_BYTES: usize = 4096;
+
+const MOST_TABLE_BYTES: usize = 65536;
 
 fn refusal_answer(number: u32) -> u64
-    requires { ⌜ number < 256 ⌝ }
+    requires { ⌜ number < 2 ^ 8 ⌝ }
     ensures { λ r. ⌜ r ≡ refusalAnswer number ⌝ }
 {
     number as u64 * BIT_56
@@ -57,7 +67,7 @@ fn access_answer(
     interrupts: bool,
     exception: bool,
 ) -> u64
-    requires { ⌜ (value < 65536) × (loads < 16) ⌝ }
+    requires { ⌜ (value < 2 ^ 16) × (loads < 16) ⌝ }
     ensures { λ r. ⌜ r ≡ accessAnswer address value loads located interrupts exception ⌝ }
 {
     let flags = bit(located) * BIT_52 + bit(interrupts) * BIT_53 + bit(exception) * BIT_54;
@@ -65,7 +75,7 @@ fn access_answer(
 }
 
 fn translation_answer(t: Translation) -> u64
-    requires { ⌜ t .value < 65536 ⌝ }
+    requires { ⌜ t .value < 2 ^ 16 ⌝ }
     ensures { λ r. ⌜ r ≡ translationAnswer t ⌝ }
 {
     let physical = t.physical;
@@ -97,7 +107,7 @@ fn reply_answer(reply: Reply) -> u64
 }
 
 fn registers_of(bytes: &[u8]) -> Registers
-    requires { ⌜ length (now bytes) ≡ 44 ⌝ }
+    requires { ⌜ length (now bytes) ≡ REGISTER_BYTES ⌝ }
     ensures { λ r. ⌜ r ≡ registersOf (now (bytes .entry)) ⌝ }
 {
     let mut words = [0u32; 11];
@@ -106,7 +116,7 @@ fn registers_of(bytes: &[u8]) -> Registers
 }
 
 fn put_registers(bytes: &mut [u8], r: Registers)
-    requires { ⌜ length (now bytes) ≡ 44 ⌝ }
+    requires { ⌜ length (now bytes) ≡ REGISTER_BYTES ⌝ }
     ensures { λ _. ⌜ now (bytes .exit) ≡ registerBytes r ⌝ }
 {
     let words = registers::to_words(r);
@@ -117,7 +127,7 @@ fn put_registers(bytes: &mut [u8], r: Registers)
 fn registers_taken(bytes: &[u8]) -> bool
     ensures { λ t. ⌜ t ≡ registersTaken (now (bytes .entry)) ⌝ }
 {
-    if bytes.len() != 44 {
+    if bytes.len() != REGISTER_BYTES {
         return false;
     }
     let r = registers_of(bytes);
@@ -127,7 +137,7 @@ fn registers_taken(bytes: &[u8]) -> bool
 fn buffer_taken(bytes: &[u8]) -> bool
     ensures { λ t. ⌜ t ≡ bufferTaken (now (bytes .entry)) ⌝ }
 {
-    bytes.len() == 512
+    bytes.len() == BUFFER_BYTES
 }
 
 // 4,096 to 65,536 bytes, in multiples of 4,096.
@@ -135,12 +145,12 @@ fn tables_taken(bytes: &[u8]) -> bool
     ensures { λ t. ⌜ t ≡ tablesTaken (now (bytes .entry)) ⌝ }
 {
     let n = bytes.len();
-    (4096 <= n) & (n <= 65536) & (n % 4096 == 0)
+    (LEAST_TABLE_BYTES <= n) & (n <= MOST_TABLE_BYTES) & (n % LEAST_TABLE_BYTES == 0)
 }
 
 // Fills the slots of a page's location from the buffer's bytes, and no other.
 fn fetch(buffer: &[u8], slots: &mut [u64], vpn: u32)
-    requires { ⌜ (length (now buffer) ≡ 512) × (length (now slots) ≡ 64) ⌝ }
+    requires { ⌜ (length (now buffer) ≡ BUFFER_BYTES) × (length (now slots) ≡ 64) ⌝ }
     ensures { λ _. ⌜ Fetched (now (buffer .entry)) (now (slots .exit)) vpn ⌝ }
 {
     let mut set: u32 = 0;
@@ -153,7 +163,7 @@ fn fetch(buffer: &[u8], slots: &mut [u64], vpn: u32)
 
 // A raw access, once it is accepted. It looks at the slots of its page's location alone.
 fn first_try(r: Registers, buffer: &[u8], slots: &mut [u64], a: Access) -> Translation
-    requires { ⌜ Accepted r (bufferOf (now buffer)) a × (length (now buffer) ≡ 512) × (length (now slots) ≡ 64) ⌝ }
+    requires { ⌜ Accepted r (bufferOf (now buffer)) a × (length (now buffer) ≡ BUFFER_BYTES) × (length (now slots) ≡ 64) ⌝ }
     ensures answer { λ t. ⌜ t ≡ translate r (bufferOf (now (buffer .entry))) a ⌝ }
     ensures slots { λ _. ⌜ Fetched (now (buffer .entry)) (now (slots .exit)) (vpnOf (a .address)) ⌝ }
 {

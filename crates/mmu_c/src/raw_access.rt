@@ -7,6 +7,7 @@ ghost use Rattle.mmu_c.specs.RawAccess.{RawAccessGives};
 ghost use Rattle.mmu_c.specs.Runs.{bufferTaken};
 use registers::Access;
 use registers::Registers;
+use registers::refusals;
 
 // The refusal once the registers are 44 bytes.
 fn raw_refusal(r: Registers, buffer: &[u8], a: Access) -> u32
@@ -14,14 +15,14 @@ fn raw_refusal(r: Registers, buffer: &[u8], a: Access) -> u32
         (refuseUnless (drawFits (a .draw)) 4 0)) ⌝ }
 {
     if !registers::registers_fit(r) {
-        return 1;
+        return refusals::REGISTERS;
     }
     if !crate::buffer_taken(buffer) {
-        return 2;
+        return refusals::BUFFER;
     }
     let draw_fits = a.draw <= 3;
     if !draw_fits {
-        return 4;
+        return refusals::DRAW;
     }
     0
 }
@@ -30,8 +31,8 @@ fn raw_with(registers: &mut [u8], buffer: &[u8], slots: &mut [u64], a: Access) -
     requires { ⌜ length (now slots) ≡ 64 ⌝ }
     ensures { λ n. ⌜ RawAccessGives (now (registers .entry)) (now (buffer .entry)) a n (now (registers .exit)) ⌝ }
 {
-    if registers.len() != 44 {
-        return crate::refusal_answer(1);
+    if registers.len() != crate::REGISTER_BYTES {
+        return crate::refusal_answer(refusals::REGISTERS);
     }
     let r = crate::registers_of(registers);
     let refusal = raw_refusal(r, buffer, a);

@@ -1,26 +1,26 @@
 // The C call served access.
 ghost use mathlib.Core.Bool.{true};
 ghost use mathlib.Core.Path.{_≡_};
-ghost use Prim.Native.Nat.{_≤_, _<_};
+ghost use Prim.Native.Nat.{_*_, _≤_, _<_};
 ghost use lib.ListN.{length};
 ghost use Rattle.entry.specs.Address.{vpnOf};
 ghost use Rattle.registers.specs.Fields.{registersFit};
+ghost use Rattle.page_table.specs.Stretches.{ROOTS};
 ghost use Rattle.registers.specs.Refusals.{machineRefusal};
 ghost use Rattle.access.specs.Translation.{Accepted, translate};
 ghost use Rattle.mmu.specs.ServedAccess.{serviceRefusal};
 ghost use Rattle.table_bytes.specs.TableBytes.{wordsOf};
 ghost use Rattle.mmu_c.specs.Location.{Fetched, putBack};
-ghost use Rattle.mmu_c.specs.Runs.{bufferOf, bufferTaken, tablesTaken};
+ghost use Rattle.mmu_c.specs.Runs.{BUFFER_BYTES, bufferOf, bufferTaken, tablesTaken};
 ghost use Rattle.mmu_c.specs.ServedAccess.{AccessGivesBytes, ServedAccessGives};
+use access::MISS;
 use access::Translation;
 use page_table::Walk;
 use registers::Access;
 use registers::Outcome;
 use registers::Registers;
 use registers::Reply;
-
-// The exception value of a miss.
-const MISS: u32 = 8;
+use registers::refusals;
 
 // The refusal once the registers are 44 bytes.
 fn served_refusal(r: Registers, buffer: &[u8], tables: &[u8], a: Access) -> u32
@@ -40,7 +40,7 @@ fn served_refusal(r: Registers, buffer: &[u8], tables: &[u8], a: Access) -> u32
 
 // Writes the slots of a page's location to the buffer's bytes.
 fn put_back(slots: &[u64], buffer: &mut [u8], vpn: u32)
-    requires { ⌜ (length (now slots) ≡ 64) × (length (now buffer) ≡ 512) ⌝ }
+    requires { ⌜ (length (now slots) ≡ 64) × (length (now buffer) ≡ BUFFER_BYTES) ⌝ }
     ensures { λ _. ⌜ now (buffer .exit) ≡ putBack (now (slots .entry)) vpn 4 (now (buffer .entry)) ⌝ }
 {
     let mut set: u32 = 0;
@@ -60,7 +60,7 @@ fn serve(
     slots: &mut [u64],
     a: Access,
 ) -> Reply
-    requires { ⌜ Accepted r (bufferOf (now buffer)) a × (length (now buffer) ≡ 512) × (256 ≤ length (now tables))
+    requires { ⌜ Accepted r (bufferOf (now buffer)) a × (length (now buffer) ≡ BUFFER_BYTES) × (4 * ROOTS ≤ length (now tables))
         × (first ≡ translate r (bufferOf (now buffer)) a) × Fetched (now buffer) (now slots) (vpnOf (a .address)) ⌝ }
     ensures { λ s. ⌜ AccessGivesBytes
         (record { registers = r; buffer = bufferOf (now (buffer .entry)); words = wordsOf (now (tables .entry)) }) a s
@@ -92,8 +92,8 @@ fn served_with(
     ensures { λ n. ⌜ ServedAccessGives (now (registers .entry)) (now (buffer .entry)) (now (tables .entry)) a n
         (now (registers .exit)) (now (buffer .exit)) ⌝ }
 {
-    if registers.len() != 44 {
-        return crate::refusal_answer(1);
+    if registers.len() != crate::REGISTER_BYTES {
+        return crate::refusal_answer(refusals::REGISTERS);
     }
     let r = crate::registers_of(registers);
     let refusal = served_refusal(r, buffer, tables, a);

@@ -2,16 +2,17 @@
 ghost use mathlib.Core.Path.{_≡_};
 ghost use lib.ListN.{length};
 ghost use Rattle.mmu_c.specs.Start.{StartGives};
+use registers::refusals;
 
 fn start_with(registers: &mut [u8], buffer: &mut [u8], slots: &mut [u64]) -> u64
     requires { ⌜ length (now slots) ≡ 64 ⌝ }
     ensures { λ n. ⌜ StartGives (now (registers .entry)) (now (buffer .entry)) n (now (registers .exit)) (now (buffer .exit)) ⌝ }
 {
-    if registers.len() != 44 {
-        return crate::refusal_answer(1);
+    if registers.len() != crate::REGISTER_BYTES {
+        return crate::refusal_answer(refusals::REGISTERS);
     }
     if !crate::buffer_taken(buffer) {
-        return crate::refusal_answer(2);
+        return crate::refusal_answer(refusals::BUFFER);
     }
     let reply = control::start(slots);
     let after = reply.registers;

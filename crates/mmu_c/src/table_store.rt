@@ -3,6 +3,7 @@ ghost use mathlib.Core.Path.{_≡_};
 ghost use Prim.Native.Nat.{_≤_, _<_};
 ghost use lib.ListN.{length};
 ghost use Rattle.mmu_c.specs.TableStore.{TableStoreGives, storeRefusal};
+use registers::refusals;
 
 fn store_refusal(registers: &[u8], buffer: &[u8], tables: &[u8], index: u32) -> u32
     ensures { λ n. ⌜ n ≡ storeRefusal (now (registers .entry)) (now (buffer .entry)) (now (tables .entry)) index ⌝ }
@@ -17,7 +18,7 @@ fn store_refusal(registers: &[u8], buffer: &[u8], tables: &[u8], index: u32) -> 
     }
     let index_fits = (index as usize) < tables.len() / 4;
     if !index_fits {
-        return 6;
+        return refusals::INDEX;
     }
     0
 }

@@ -1,6 +1,7 @@
 // Makes one of the unit's calls many times: what the measurements drive. Standard input has a scenario and a count, two words of four
 // bytes; standard output gets the sum of the answers, eight bytes. tests/PROTOCOL.md gives the scenarios.
-ghost use Prim.Native.Nat.{_≤_, _<_};
+ghost use Prim.Native.Nat.{_^_, _≤_, _<_};
+ghost use Rattle.entry.specs.Address.{PAGE, PAGES};
 use access::Physical;
 use heap::Mapped;
 use heap::Pool;
@@ -17,8 +18,31 @@ const TLB_HI: u32 = 7;
 
 const TLB_LO: u32 = 8;
 
-// Where the pool of the measurements begins.
+// Where the pool of the measurements begins, how many frames it has, and how many of them are held at first.
 const FIRST_PFN: u32 = 100000;
+
+const POOL: u32 = 4096;
+
+const HELD: u32 = 3000;
+
+const WIDE_HELD: u64 = HELD as u64;
+
+// Directory 1, table 1 and its first leaf, by their words' indexes, and the word that names either.
+const DIRECTORY: u32 = page_table::DIRECTORY as u32;
+
+const TABLE: u32 = page_table::TABLE as u32;
+
+const NUMBER_1: u32 = page_table::PRESENT + 1;
+
+// A leaf that may be read and written, and one with the first frame of the pages.
+const LEAF: u32 = page_table::PRESENT + page_table::VALID + page_table::WE;
+
+const FIRST_LEAF: u32 = LEAF + 256;
+
+// How many values the software bits of a leaf have, and what the lowest counts.
+const SOFTWARE: u64 = 512;
+
+const SOFTWARE_BIT: u32 = 1 << 19;
 
 // What an answer adds to the sum.
 fn worth(outcome: Outcome) -> u64 {
@@ -38,10 +62,10 @@ fn counted(sum: u64, reply: Reply) -> u64 {
 
 // A user's read of a page.
 fn reading(page: u32, offset: u32, draw: u32) -> Access
-    requires { ⌜ (page < 524288) × (offset < 8192) ⌝ }
+    requires { ⌜ (page < PAGES) × (offset < PAGE) ⌝ }
 {
     Access {
-        address: page * 8192 + offset,
+        address: page * entry::PAGE + offset,
         user: true,
         write: false,
         draw,
@@ -50,7 +74,7 @@ fn reading(page: u32, offset: u32, draw: u32) -> Access
 
 // Scenario 2 takes 80 pages in turn, so that each one misses; the others 64, which are all in the buffer.
 fn access_of(scenario: u32, i: u64) -> Access
-    requires { ⌜ i < 4294967296 ⌝ }
+    requires { ⌜ i < 2 ^ 32 ⌝ }
 {
     if scenario == 2 {
         return reading(((64 + i) % 80) as u32, 0, ((i / 16) % 4) as u32);
@@ -113,9 +137,9 @@ fn run_stores(r: Registers, buffer: &mut [u64], words: &mut [u32], count: u32) -
     let mut i: u64 = 0;
     while i < count as u64 {
         let page = (i % 64) as u32;
-        let software = ((i / 64) % 512) as u32;
-        let value = 3489661184 + page + software * 524288;
-        let reply = store::table_store(r, buffer, words, 1024 + page, value);
+        let software = ((i / 64) % SOFTWARE) as u32;
+        let value = FIRST_LEAF + page + software * SOFTWARE_BIT;
+        let reply = store::table_store(r, buffer, words, TABLE + page, value);
         sum = counted(sum, reply);
         i += 1;
     }
@@ -150,10 +174,10 @@ fn added(sum: u64, outcome: Outcome) -> u64 {
 
 // A pool of 4,096 frames of which the first 3,000 are held.
 fn held_pool() -> Pool {
-    let fresh = heap::new_pool(FIRST_PFN, 4096);
+    let fresh = heap::new_pool(FIRST_PFN, POOL);
     let mut pool = fresh.pool;
     let mut i: u32 = 0;
-    while i < 3000 {
+    while i < HELD {
         let taken = heap::take(pool);
         pool = taken.pool;
         i += 1;
@@ -167,7 +191,7 @@ fn run_frames(count: u32) -> u64 {
     let mut sum: u64 = 0;
     let mut i: u64 = 0;
     while i < count as u64 {
-        let given = heap::give(pool, FIRST_PFN + ((7 * i) % 3000) as u32);
+        let given = heap::give(pool, FIRST_PFN + ((7 * i) % WIDE_HELD) as u32);
         let given_outcome = given.outcome;
         pool = given.pool;
         let taken = heap::take(pool);
@@ -191,7 +215,7 @@ fn run_maps(r: Registers, buffer: &mut [u64], words: &mut [u32], count: u32) -> 
     let mut sum: u64 = 0;
     let mut i: u64 = 0;
     while i < count as u64 {
-        let mapped = heap::map(r, buffer, words, pool, 1024 + (i % 64) as u32, 3489660928);
+        let mapped = heap::map(r, buffer, words, pool, TABLE + (i % 64) as u32, LEAF);
         sum = counted_map(sum, mapped);
         pool = mapped.pool;
         let given = heap::give(pool, mapped.pfn);
@@ -224,11 +248,11 @@ fn run(r: Registers, buffer: &mut [u64], words: &mut [u32], scenario: u32, count
 
 // The tables of identification 5: a directory, a table, and 80 pages.
 fn build(r: Registers, buffer: &mut [u64], words: &mut [u32]) {
-    store::table_store(r, buffer, words, 5, 2147483649);
-    store::table_store(r, buffer, words, 512, 2147483649);
+    store::table_store(r, buffer, words, 5, NUMBER_1);
+    store::table_store(r, buffer, words, DIRECTORY, NUMBER_1);
     let mut page: u32 = 0;
     while page < 80 {
-        store::table_store(r, buffer, words, 1024 + page, 3489661184 + page);
+        store::table_store(r, buffer, words, TABLE + page, FIRST_LEAF + page);
         page += 1;
     }
 }

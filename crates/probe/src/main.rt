@@ -3,6 +3,7 @@
 ghost use mathlib.Core.Path.{_≡_};
 ghost use Prim.Native.Nat.{_*_, _≤_};
 ghost use lib.ListN.{length};
+ghost use Rattle.probe.specs.Lengths.{SLOTS, WORDS};
 use access::Physical;
 use heap::Mapped;
 use heap::Pool;
@@ -46,8 +47,22 @@ struct PoolAnswer {
     pool: Pool,
 }
 
+// How many table words and slots a request brings at most, and their bytes.
+const WORDS: usize = 16384;
+
+const WORD_BYTES: usize = 4 * WORDS;
+
+const SLOTS: usize = 80;
+
+const SLOT_BYTES: usize = 8 * SLOTS;
+
+// How many bytes the registers have, and the bits of a pool.
+const REGISTER_BYTES: usize = 44;
+
+const POOL_BYTES: usize = 512;
+
 // In place of a number of table words: the input has ended.
-const END: usize = 16385;
+const END: usize = WORDS + 1;
 
 // The least kind of a call on a pool, and the highest kind of all.
 const POOL_KIND: u32 = 9;
@@ -141,7 +156,7 @@ fn walk(tables: &[u32], id: u32, vpn: u32, registers: Registers) -> Answer {
     if 63 < id {
         return answered(3, 0, 0, 0, registers);
     }
-    if 524287 < vpn {
+    if entry::PAGES <= vpn {
         return answered(3, 0, 0, 0, registers);
     }
     if tables.len() < 64 {
@@ -153,7 +168,7 @@ fn walk(tables: &[u32], id: u32, vpn: u32, registers: Registers) -> Answer {
 
 // Makes a call that takes the table words; kind 8 makes none, and answers how many there are.
 fn table_call(q: Request, buffer: &mut [u64], tables: &mut [u32]) -> Answer
-    requires { ⌜ length (now tables) ≤ 16384 ⌝ }
+    requires { ⌜ length (now tables) ≤ WORDS ⌝ }
 {
     let r = q.registers;
     if q.kind == 4 {
@@ -181,7 +196,7 @@ fn table_call(q: Request, buffer: &mut [u64], tables: &mut [u32]) -> Answer
 
 // Makes the call that a request names.
 fn call(q: Request, buffer: &mut [u64], tables: &mut [u32]) -> Answer
-    requires { ⌜ length (now tables) ≤ 16384 ⌝ }
+    requires { ⌜ length (now tables) ≤ WORDS ⌝ }
 {
     let r = q.registers;
     if q.kind == 0 {
@@ -253,7 +268,7 @@ fn write_answer(a: Answer) {
     io::write_all(1, &head);
     let r = a.registers;
     let words = registers::to_words(r);
-    let mut fields = [0u8; 44];
+    let mut fields = [0u8; REGISTER_BYTES];
     wire::encode32(&words, &mut fields);
     io::write_all(1, &fields);
 }
@@ -279,14 +294,14 @@ fn write_pool(pool: Pool) {
     let mut head = [0u8; 8];
     wire::encode32(&[pool.first, pool.size], &mut head);
     io::write_all(1, &head);
-    let mut bytes = [0u8; 512];
+    let mut bytes = [0u8; POOL_BYTES];
     put_bits(&pool.bits, &mut bytes);
     io::write_all(1, &bytes);
 }
 
 // Writes the table words, by way of the bytes, where the kind is 8.
 fn write_tables(kind: u32, tables: &[u32], bytes: &mut [u8])
-    requires { ⌜ (length (now tables) ≤ 16384) × (length (now bytes) ≡ 65536) ⌝ }
+    requires { ⌜ (length (now tables) ≤ WORDS) × (length (now bytes) ≡ 4 * WORDS) ⌝ }
 {
     if kind != 8 {
         return;
@@ -315,7 +330,7 @@ fn read_request() -> Request {
     let mut bytes = [0u8; 32];
     let mut words = [0u32; 8];
     let head = read_words(&mut bytes, &mut words);
-    let mut field_bytes = [0u8; 44];
+    let mut field_bytes = [0u8; REGISTER_BYTES];
     let mut fields = [0u32; 11];
     let got = head & read_words(&mut field_bytes, &mut fields);
     requested(got, words, fields)
@@ -328,7 +343,7 @@ fn read_pool(kind: u32) -> PoolRead {
     let mut got = true;
     if POOL_KIND <= kind {
         let mut head = [0u8; 8];
-        let mut bytes = [0u8; 512];
+        let mut bytes = [0u8; POOL_BYTES];
         got = read_words(&mut head, &mut frames) & read_numbers(&mut bytes, &mut bits);
     }
     let pool = Pool {
@@ -341,7 +356,7 @@ fn read_pool(kind: u32) -> PoolRead {
 
 // Reads so many table words, or none; answers how many are held then.
 fn read_tables(bytes: &mut [u8], tables: &mut [u32], count: usize, held: usize) -> usize
-    requires { ⌜ (length (now bytes) ≡ 65536) × (length (now tables) ≡ 16384) × (count ≤ 16384) ⌝ }
+    requires { ⌜ (length (now bytes) ≡ 4 * WORDS) × (length (now tables) ≡ WORDS) × (count ≤ WORDS) ⌝ }
 {
     if count == 0 {
         return held;
@@ -362,7 +377,7 @@ fn reply(
     table_bytes: &mut [u8],
     tables: &mut [u32],
 )
-    requires { ⌜ (length (now bytes) ≡ 8 * length (now buffer)) × (length (now «table_bytes») ≡ 65536) × (length (now tables) ≤ 16384) ⌝ }
+    requires { ⌜ (length (now bytes) ≡ 8 * length (now buffer)) × (length (now «table_bytes») ≡ 4 * WORDS) × (length (now tables) ≤ WORDS) ⌝ }
 {
     if POOL_KIND <= q.kind {
         let p = pool_call(q, pool, buffer, tables);
@@ -389,21 +404,21 @@ fn serve(
     tables: &mut [u32],
     held: usize,
 ) -> usize
-    requires { ⌜ (length (now bytes) ≡ 8 * length (now buffer)) × (length (now «table_bytes») ≡ 65536) × (length (now tables) ≡ 16384) ⌝ }
+    requires { ⌜ (length (now bytes) ≡ 8 * length (now buffer)) × (length (now «table_bytes») ≡ 4 * WORDS) × (length (now tables) ≡ WORDS) ⌝ }
 {
     if !p.got {
         return END;
     }
     let pool = p.pool;
     let words = q.words as usize;
-    if 16384 < words {
+    if WORDS < words {
         return END;
     }
     if !read_numbers(bytes, buffer) {
         return END;
     }
     let now = read_tables(table_bytes, tables, words, held);
-    if 16384 < now {
+    if WORDS < now {
         return END;
     }
     reply(q, pool, bytes, buffer, table_bytes, &mut tables[..now]);
@@ -418,8 +433,8 @@ fn step(
     tables: &mut [u32],
     held: usize,
 ) -> usize
-    requires { ⌜ (length (now bytes) ≡ 640) × (length (now buffer) ≡ 80)
-        × (length (now «table_bytes») ≡ 65536) × (length (now tables) ≡ 16384) ⌝ }
+    requires { ⌜ (length (now bytes) ≡ 8 * SLOTS) × (length (now buffer) ≡ SLOTS)
+        × (length (now «table_bytes») ≡ 4 * WORDS) × (length (now tables) ≡ WORDS) ⌝ }
 {
     let q = read_request();
     if LAST_KIND < q.kind {
@@ -427,7 +442,7 @@ fn step(
     }
     let p = read_pool(q.kind);
     let slots = q.slots as usize;
-    if 80 < slots {
+    if SLOTS < slots {
         return END;
     }
     let end = 8 * slots;
@@ -444,24 +459,24 @@ fn step(
 
 // A proved loop has to end, and nothing says that the input does: so the requests are counted.
 fn run(bytes: &mut [u8], buffer: &mut [u64], table_bytes: &mut [u8], tables: &mut [u32])
-    requires { ⌜ (length (now bytes) ≡ 640) × (length (now buffer) ≡ 80)
-        × (length (now «table_bytes») ≡ 65536) × (length (now tables) ≡ 16384) ⌝ }
+    requires { ⌜ (length (now bytes) ≡ 8 * SLOTS) × (length (now buffer) ≡ SLOTS)
+        × (length (now «table_bytes») ≡ 4 * WORDS) × (length (now tables) ≡ WORDS) ⌝ }
 {
     let mut held: usize = 0;
     let mut left = u64::MAX;
     while 0 < left {
         left -= 1;
         held = step(bytes, buffer, table_bytes, tables, held);
-        if 16384 < held {
+        if WORDS < held {
             return;
         }
     }
 }
 
 fn main() {
-    let mut bytes = [0u8; 640];
-    let mut buffer = [0u64; 80];
-    let mut table_bytes = [0u8; 65536];
-    let mut tables = [0u32; 16384];
+    let mut bytes = [0u8; SLOT_BYTES];
+    let mut buffer = [0u64; SLOTS];
+    let mut table_bytes = [0u8; WORD_BYTES];
+    let mut tables = [0u32; WORDS];
     run(&mut bytes, &mut buffer, &mut table_bytes, &mut tables);
 }

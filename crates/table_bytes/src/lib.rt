@@ -1,11 +1,12 @@
 // The page tables as bytes: the walk of a page, and the store of one word. A walk decodes only the words that it reads.
 ghost use mathlib.Core.Bool.{true};
 ghost use mathlib.Core.Path.{_≡_};
-ghost use Prim.Native.Nat.{_≤_, _<_, _^_};
+ghost use Prim.Native.Nat.{_*_, _≤_, _<_, _^_};
 ghost use lib.ListN.{length, getD};
+ghost use Rattle.entry.specs.Address.{PAGES};
 ghost use Rattle.entry.specs.Entry.{unpack};
 ghost use Rattle.page_table.specs.Words.{number};
-ghost use Rattle.page_table.specs.Stretches.{stretchSize};
+ghost use Rattle.page_table.specs.Stretches.{LONGEST, ROOTS, stretchSize};
 ghost use Rattle.page_table.specs.Reads.{leadsOn};
 ghost use Rattle.page_table.specs.Ends.{endRead};
 ghost use Rattle.page_table.specs.Walk.{walkTree, walkPage};
@@ -29,7 +30,7 @@ fn stretch<'a>(tables: &'a [u8], levels: u32, word: u32) -> &'a [u8]
 // The walk from a word, which stands at an index of the run and has so many levels below it: where it ends, and the word that it read
 // there. The run is lent as in the walk on words.
 fn descend(tables: &&[u8], vpn: u32, levels: u32, word: u32, index: u32) -> u64
-    requires { ⌜ (vpn < 524288) × (levels ≤ 2) × (index < 67108864) × (word ≡ getD (wordsOf (now (now tables))) index 0) ⌝ }
+    requires { ⌜ (vpn < PAGES) × (levels ≤ 2) × (index < LONGEST) × (word ≡ getD (wordsOf (now (now tables))) index 0) ⌝ }
     ensures { λ r. ⌜ r ≡ endRead (wordsOf (now (now (tables .entry)))) vpn levels index ⌝ }
 {
     if levels == 0 {
@@ -54,7 +55,7 @@ fn descend(tables: &&[u8], vpn: u32, levels: u32, word: u32, index: u32) -> u64
 
 // The walk of one tree, from its root.
 fn walk_tree(tables: &[u8], vpn: u32, global: bool, root: u32) -> Walk
-    requires { ⌜ (vpn < 524288) × (root ≤ 63) × (256 ≤ length (now tables)) ⌝ }
+    requires { ⌜ (vpn < PAGES) × (root ≤ 63) × (4 * ROOTS ≤ length (now tables)) ⌝ }
     ensures { λ r. ⌜ r ≡ walkTree (wordsOf (now (tables .entry))) vpn global root ⌝ }
 {
     let word = wire::word_at(tables, root as usize);
@@ -64,7 +65,7 @@ fn walk_tree(tables: &[u8], vpn: u32, global: bool, root: u32) -> Walk
 
 // The walk of a page under an identification: the global tree first, and the own tree where that has nothing.
 pub fn walk_page(tables: &[u8], id: u32, vpn: u32) -> Walk
-    requires { ⌜ (id ≤ 63) × (vpn < 524288) × (256 ≤ length (now tables)) ⌝ }
+    requires { ⌜ (id ≤ 63) × (vpn < PAGES) × (4 * ROOTS ≤ length (now tables)) ⌝ }
     ensures { λ r. ⌜ r ≡ walkPage (wordsOf (now (tables .entry))) id vpn ⌝ }
 {
     let first = walk_tree(tables, vpn, true, 63);
@@ -76,7 +77,7 @@ pub fn walk_page(tables: &[u8], id: u32, vpn: u32) -> Walk
 
 // The entry of a slot is empty, or the tables give what it claims.
 fn kept(tables: &[u8], slot: u32, e: u64) -> bool
-    requires { ⌜ (256 ≤ length (now tables)) × (slot < 64) × (e < 2 ^ 44) ⌝ }
+    requires { ⌜ (4 * ROOTS ≤ length (now tables)) × (slot < 64) × (e < 2 ^ 44) ⌝ }
     ensures { λ r. ⌜ r ≡ kept (wordsOf (now (tables .entry))) slot (unpack e) ⌝ }
 {
     match store::claim_of(slot, e) {
@@ -91,7 +92,7 @@ fn kept(tables: &[u8], slot: u32, e: u64) -> bool
 
 // Empties every slot that is not kept, and answers how many.
 fn sweep(buffer: &mut [u64], tables: &[u8]) -> u32
-    requires { ⌜ (bufferFits (Buffer.Wide (now buffer)) ≡ true) × (256 ≤ length (now tables)) ⌝ }
+    requires { ⌜ (bufferFits (Buffer.Wide (now buffer)) ≡ true) × (4 * ROOTS ≤ length (now tables)) ⌝ }
     ensures { λ n. ⌜ SweepGives (wordsOf (now (tables .entry))) (Buffer.Wide (now (buffer .entry))) (Buffer.Wide (now (buffer .exit))) n ⌝ }
 {
     let mut emptied: u32 = 0;
@@ -107,7 +108,7 @@ fn sweep(buffer: &mut [u64], tables: &[u8]) -> u32
 
 // Writes one word's bytes and sweeps; answers how many slots were emptied.
 pub fn rewrite(buffer: &mut [u64], tables: &mut [u8], index: u32, value: u32) -> u32
-    requires { ⌜ (bufferFits (Buffer.Wide (now buffer)) ≡ true) × (256 ≤ length (now tables)) × (index < length (wordsOf (now tables))) ⌝ }
+    requires { ⌜ (bufferFits (Buffer.Wide (now buffer)) ≡ true) × (4 * ROOTS ≤ length (now tables)) × (index < length (wordsOf (now tables))) ⌝ }
     ensures { λ n. ⌜ RewriteGives (record { index = index; value = value }) (now (tables .entry)) (now (tables .exit))
         (Buffer.Wide (now (buffer .entry))) (Buffer.Wide (now (buffer .exit))) n ⌝ }
 {
