@@ -17,9 +17,13 @@ ghost use Rattle.tlb.specs.Hit.{hit, idMatchesOrGlobal, validOrInvExc, v
 //     tlb_pid      page_id field in the TLB entry
 //     global       global bit (22) in the TLB entry
 //
-// inv_excp is the bit that table 4-3 calls inv_exc, bit 2 of CTRL; a load asks with it on, to find a page's entry whatever its valid bit.
-// The entry is the number e. Its kernel, we and pfn are taken out only after a hit, by `page_mapped` in the crate `access`.
-// Behind `ensures` stands what is proved of the answer; the `hit` in it is the definition in specs/Hit.antt.
+// inv_excp is the bit that table 4-3 calls inv_exc, bit 2 of CTRL. A load asks with it on, to find
+// a page's entry whatever its valid bit.
+// The entry is the number e. Its kernel, we and pfn are taken out only after a hit, by `page_mapped`
+// in the crate `access`.
+//
+// Behind `ensures` stands what is proved of the answer. The `hit` in it is the definition in
+// specs/Hit.antt.
 pub(crate) fn hit(inv_excp: bool, vpn: u32, context_pid: u32, e: u64) -> bool
     ensures { λ r. ⌜ r ≡ hit «inv_excp» «context_pid» vpn (unpack e) ⌝ }
 {
@@ -35,8 +39,8 @@ fn valid_or_inv_excp(inv_excp: bool, e: u64) -> bool
     valid | inv_excp
 }
 
-// `vpn` is the CPU's whole page number. Its lower four bits are the location, by which the slot was found; an entry holds only the upper 15
-// bits of its own, so these are compared.
+// `vpn` is the CPU's whole page number. Its lower four bits are the location, by which the slot was
+// found. An entry holds only the upper 15 bits of its own, so these are compared.
 fn cpu_vpn_equals_tlb_vpn(vpn: u32, e: u64) -> bool
     ensures { λ r. ⌜ r ≡ vpn15Matches vpn (unpack e) ⌝ }
 {
