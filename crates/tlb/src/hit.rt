@@ -19,8 +19,8 @@ ghost use Rattle.tlb.specs.Hit.{hit, idMatchesOrGlobal, validOrInvExc, v
 //
 // inv_excp is the bit that table 4-3 calls inv_exc, bit 2 of CTRL. A load asks with it on, to find
 // a page's entry whatever its valid bit.
-// The entry is the number e. Its kernel, we and pfn are taken out only after a hit, by `page_mapped`
-// in the crate `access`.
+// The entry is the number e. Its kernel, we and pfn are taken out only after a hit, by
+// `page_mapped` in the crate `access`.
 //
 // Behind `ensures` stands what is proved of the answer. The `hit` in it is the definition in
 // specs/Hit.antt.
