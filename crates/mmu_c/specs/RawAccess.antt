@@ -2,8 +2,10 @@
 use Prim.Native.Nat.{ℕ}
 use mathlib.Core.Path.{_≡_}
 use mathlib.Core.List.{List}
+use Rattle.registers.specs.Fields.{registersFit}
 use Rattle.registers.specs.Refusals.{refuseUnless, byRefusal, drawFits}
 use Rattle.registers.specs.declared.Access.{Access}
+use Rattle.registers.specs.declared.Registers.{Registers}
 use Rattle.access.specs.Translation.{translate}
 use Rattle.access.specs.declared.Translation.{Translation}
 use Rattle.mmu_c.specs.Runs.{registersOf, registerBytes, bufferOf, registersTaken, bufferTaken}
@@ -12,6 +14,10 @@ use Rattle.mmu_c.specs.Answers.{refusalAnswer, translationAnswer}
 unfoldable pub rawRefusal : (registers buffer : List ℕ) → Access → ℕ
 rawRefusal registers buffer a =
     refuseUnless (registersTaken registers) 1 (refuseUnless (bufferTaken buffer) 2 (refuseUnless (drawFits (a .draw)) 4 0))
+
+-- the same, once the registers are 44 bytes
+abbrev pub longRefusal : Registers → (buffer : List ℕ) → Access → ℕ
+longRefusal r buffer a = refuseUnless (registersFit r) 1 (refuseUnless (bufferTaken buffer) 2 (refuseUnless (drawFits (a .draw)) 4 0))
 
 -- the access, once it is accepted
 unfoldable pub translation : (registers buffer : List ℕ) → Access → Translation

@@ -1,18 +1,14 @@
 // The C call raw access.
 ghost use mathlib.Core.Path.{_≡_};
 ghost use lib.ListN.{length};
-ghost use Rattle.registers.specs.Fields.{registersFit};
-ghost use Rattle.registers.specs.Refusals.{drawFits, refuseUnless};
-ghost use Rattle.mmu_c.specs.RawAccess.{RawAccessGives};
-ghost use Rattle.mmu_c.specs.Runs.{bufferTaken};
+ghost use Rattle.mmu_c.specs.RawAccess.{RawAccessGives, longRefusal};
 use registers::Access;
 use registers::Registers;
 use registers::refusals;
 
 // The refusal once the registers are 44 bytes.
 fn raw_refusal(r: Registers, buffer: &[u8], a: Access) -> u32
-    ensures { λ n. ⌜ n ≡ refuseUnless (registersFit r) 1 (refuseUnless (bufferTaken (now (buffer .entry))) 2
-        (refuseUnless (drawFits (a .draw)) 4 0)) ⌝ }
+    ensures { λ n. ⌜ n ≡ longRefusal r (now (buffer .entry)) a ⌝ }
 {
     if !registers::registers_fit(r) {
         return refusals::REGISTERS;
