@@ -128,7 +128,6 @@ uint64_t mmu_table_store(const uint8_t *registers, size_t registers_len,
 #define MMU_ENTRY_GLOBAL_BIT 22  /* One bit says that the entry answers for every identification. */
 #define MMU_ENTRY_PAGE_ID_BIT 23 /* Six bits are the identification under which the entry was loaded. */
 #define MMU_ENTRY_VPN15_BIT 29   /* 15 bits are the page's vpn without its low four bits. */
-#define MMU_ENTRY_BITS 44        /* An entry has this many bits. What a slot holds above them is ignored. */
 
 #define MMU_EMPTY_PAGE_ID 63u /* An empty slot has this page_id, and no program has it. */
 
@@ -270,70 +269,48 @@ static inline uint32_t mmu_slot_of(uint32_t set, uint32_t vpn)
     return MMU_SET_SLOTS * set + vpn % MMU_SET_SLOTS;
 }
 
-/* The fields of an entry. */
-
-/* The page's vpn without its low four bits. */
-static inline uint32_t mmu_entry_vpn15(uint64_t entry)
-{
-    return (uint32_t)(entry >> MMU_ENTRY_VPN15_BIT & 0x7FFFu);
-}
-
-/* The identification under which the entry was loaded. */
-static inline uint32_t mmu_entry_page_id(uint64_t entry)
-{
-    return (uint32_t)(entry >> MMU_ENTRY_PAGE_ID_BIT & 63u);
-}
-
-/* Whether the entry answers for every identification. */
-static inline bool mmu_entry_global(uint64_t entry)
-{
-    return (entry >> MMU_ENTRY_GLOBAL_BIT & 1u) != 0;
-}
-
-/* Whether the page is valid. */
-static inline bool mmu_entry_valid(uint64_t entry)
-{
-    return (entry >> MMU_ENTRY_VALID_BIT & 1u) != 0;
-}
-
-/* Whether the page is the kernel's. */
-static inline bool mmu_entry_kernel(uint64_t entry)
-{
-    return (entry >> MMU_ENTRY_KERNEL_BIT & 1u) != 0;
-}
-
-/* Whether the page may be written. */
-static inline bool mmu_entry_we(uint64_t entry)
-{
-    return (entry >> MMU_ENTRY_WE_BIT & 1u) != 0;
-}
-
-/* The number of the page's frame. */
-static inline uint32_t mmu_entry_pfn(uint64_t entry)
-{
-    return (uint32_t)(entry >> MMU_ENTRY_PFN_BIT & 0x7FFFFu);
-}
-
 /* The slots of the buffer, 0 to 63. A host only reads them: the calls alone write the buffer. */
 
-/* The entry in a slot: its 44 bits. */
-static inline uint64_t mmu_slot_entry(const uint8_t *buffer, uint32_t slot)
+/* The fields of an entry. */
+struct mmu_entry {
+    uint32_t vpn15;   /* The page's vpn without its low four bits. */
+    uint32_t page_id; /* The identification under which the entry was loaded. */
+    bool global;      /* The entry answers for every identification. */
+    bool valid;       /* The page is valid. */
+    bool kernel;      /* The page is the kernel's. */
+    bool we;          /* The page may be written. */
+    uint32_t pfn;     /* The number of the page's frame. */
+};
+
+/* The entry in a slot. What the slot holds above the entry's 44 bits is ignored. */
+static inline struct mmu_entry mmu_slot_entry(const uint8_t *buffer, uint32_t slot)
 {
-    return mmu_get_number(buffer + 8 * slot) & (((uint64_t)1 << MMU_ENTRY_BITS) - 1);
+    uint64_t number = mmu_get_number(buffer + 8 * slot);
+    struct mmu_entry entry;
+
+    entry.vpn15 = (uint32_t)(number >> MMU_ENTRY_VPN15_BIT & 0x7FFFu);
+    entry.page_id = (uint32_t)(number >> MMU_ENTRY_PAGE_ID_BIT & 0x3Fu);
+    entry.global = (number >> MMU_ENTRY_GLOBAL_BIT & 1u) != 0;
+    entry.valid = (number >> MMU_ENTRY_VALID_BIT & 1u) != 0;
+    entry.kernel = (number >> MMU_ENTRY_KERNEL_BIT & 1u) != 0;
+    entry.we = (number >> MMU_ENTRY_WE_BIT & 1u) != 0;
+    entry.pfn = (uint32_t)(number >> MMU_ENTRY_PFN_BIT & 0x7FFFFu);
+    return entry;
 }
 
 /* Whether a slot is empty: its set's number as vpn15, page_id 63, all else 0. */
 static inline bool mmu_slot_empty(const uint8_t *buffer, uint32_t slot)
 {
-    uint64_t set = slot / MMU_SET_SLOTS;
+    struct mmu_entry entry = mmu_slot_entry(buffer, slot);
 
-    return mmu_slot_entry(buffer, slot) == (set << MMU_ENTRY_VPN15_BIT | (uint64_t)MMU_EMPTY_PAGE_ID << MMU_ENTRY_PAGE_ID_BIT);
+    return entry.vpn15 == slot / MMU_SET_SLOTS && entry.page_id == MMU_EMPTY_PAGE_ID &&
+           !entry.global && !entry.valid && !entry.kernel && !entry.we && entry.pfn == 0;
 }
 
-/* The vpn of the page for which a slot that is not empty answers. The slot's number gives the low four bits, which no entry stores. */
+/* The vpn for which a slot that is not empty answers. Its low four bits are the slot's, and no entry stores them. */
 static inline uint32_t mmu_slot_vpn(const uint8_t *buffer, uint32_t slot)
 {
-    return MMU_SET_SLOTS * mmu_entry_vpn15(mmu_slot_entry(buffer, slot)) + slot % MMU_SET_SLOTS;
+    return MMU_SET_SLOTS * mmu_slot_entry(buffer, slot).vpn15 + slot % MMU_SET_SLOTS;
 }
 
 #ifdef __cplusplus
