@@ -47,8 +47,8 @@ uint64_t mmu_table_store(const uint8_t *registers, size_t registers_len,
 #define MMU_TABLE_BYTES_MAX 65536 /* The tables have at most this many bytes. */
 #define MMU_TABLE_BYTES_STEP 4096 /* The tables' length is a multiple of this. */
 #define MMU_SLOTS 64              /* The buffer has four sets of sixteen slots. */
-#define MMU_SETS 4                /* A page has one slot in each set. */
-#define MMU_SET_SLOTS 16          /* Each set has this many slots. */
+#define MMU_SETS 4                /* The buffer has this many sets, and a page has one slot in each. */
+#define MMU_SET_SLOTS 16          /* A set has this many slots. */
 
 /* Pages, and how they stand in the tables. */
 

@@ -346,29 +346,67 @@ static void try_refusals(void)
     try_wrong_arguments();
 }
 
-/* A buffer of zeros that was never started: an access has an exception of value 0 just where docs/C_INTERFACE.md says so. */
-static void try_unstarted(uint32_t ctrl, uint32_t enable, uint32_t identification, uint32_t vpn)
-{
-    bool said = enable == 1 && (ctrl & MMU_INV_EXC) != 0 && identification == 0 && vpn < 16;
-    uint64_t answer;
+/* A buffer of zeros that was never started. An access has an exception of value 0 just where docs/C_INTERFACE.md says so, and else the
+ * answer that a started buffer gives. */
 
-    memset(registers, 0, sizeof registers);
-    memset(buffer, 0, sizeof buffer);
-    set(MMU_CTRL, ctrl);
-    set(MMU_ENABLE, enable);
-    set(MMU_CONTEXT, identification);
-    answer = served(vpn << OFFSET_BITS, vpn % 4);
-    expect("an exception of value 0 without a start", mmu_excepted(answer) && mmu_value(answer) == 0, said);
+struct settings {
+    uint32_t kseg, ctrl, enable, identification;
+};
+
+static void make(const struct settings *settings)
+{
+    set(MMU_KSEG, settings->kseg);
+    set(MMU_CTRL, settings->ctrl);
+    set(MMU_ENABLE, settings->enable);
+    set(MMU_CONTEXT, settings->identification);
 }
 
+static uint64_t raw(uint32_t address)
+{
+    return mmu_raw_access(registers, sizeof registers, buffer, sizeof buffer, address, false, false, 0);
+}
+
+static void expect_unstarted(const char *what, uint64_t answer, uint64_t started, bool of_value_0)
+{
+    expect(what, mmu_excepted(answer) && mmu_value(answer) == 0, of_value_0);
+    if (!of_value_0)
+        expect(what, answer, started);
+}
+
+static void try_unstarted(const struct settings *settings, uint32_t vpn)
+{
+    bool of_value_0 = settings->enable == 1 && (settings->ctrl & MMU_INV_EXC) != 0 && settings->identification == 0 && vpn < 16 &&
+                      settings->kseg == 0;
+    uint32_t address = vpn << OFFSET_BITS;
+    uint64_t started_raw, started_served;
+
+    mmu_start(registers, sizeof registers, buffer, sizeof buffer);
+    make(settings);
+    started_raw = raw(address);
+    started_served = served(address, 0);
+    memset(registers, 0, sizeof registers);
+    memset(buffer, 0, sizeof buffer);
+    make(settings);
+    expect_unstarted("a raw access without a start", raw(address), started_raw, of_value_0);
+    expect_unstarted("a served access without a start", served(address, 0), started_served, of_value_0);
+}
+
+/* Every program has the same few pages. Segment 0 is translated, and linear. */
 static void try_all_unstarted(void)
 {
+    enum { DIRECTORY = 1, TABLE = 1, PAGES = 64 };
+
     memset(tables, 0, sizeof tables);
-    for (uint32_t ctrl = 0; ctrl < 8; ctrl++)
-        for (uint32_t enable = 0; enable < 2; enable++)
-            for (uint32_t identification = 0; identification < IDENTIFICATIONS; identification++)
-                for (uint32_t vpn = 0; vpn < 64; vpn++)
-                    try_unstarted(ctrl, enable, identification, vpn);
+    put_table_word(mmu_directory_index(DIRECTORY, 0), MMU_PRESENT | TABLE);
+    for (uint32_t vpn = 0; vpn < PAGES; vpn++)
+        put_table_word(mmu_leaf_index(TABLE, vpn), MMU_PRESENT | (vpn % 2 != 0 ? MMU_VALID : 0) | vpn);
+    for (uint32_t n = 0; n < 2 * 8 * 2 * IDENTIFICATIONS; n++) {
+        struct settings settings = {n % 2, n / 2 % 8, n / 16 % 2, n / 32};
+
+        put_table_word(settings.identification, MMU_PRESENT | DIRECTORY);
+        for (uint32_t vpn = 0; vpn < PAGES; vpn++)
+            try_unstarted(&settings, vpn);
+    }
 }
 
 int main(void)
