@@ -12,12 +12,11 @@
 
 #include "mmu.h"
 
-/* Word 5 names directory 1, whose first word names table 1; a page's leaf is at 1,024 + page. */
-enum { PROGRAM = 5, GLOBAL_ROOT = 63, DIRECTORY = 1, TABLE = 1, PAGE = 1, FRAME = 0x123 };
+/* The root of program 5 names directory 1, whose word for page 1 names table 1, which has the page's leaf. */
+enum { PROGRAM = 5, DIRECTORY = 1, TABLE = 1, PAGE = 1, FRAME = 0x123, NO_PROGRAM = 63 };
 
 static const uint32_t leaf = MMU_PRESENT | MMU_VALID | MMU_WE | FRAME;
-static const uint32_t leaf_index = 1024 * TABLE + PAGE;
-static const uint32_t address = 8192 * PAGE + 0xABC;
+static const uint32_t address = MMU_PAGE_BYTES * PAGE + 0xABC;
 
 struct unit {
     uint8_t registers[MMU_REGISTER_BYTES];
@@ -49,8 +48,8 @@ static bool set(const char *step, uint32_t number, uint32_t value)
 static bool set_up(void)
 {
     put_table_word(PROGRAM, MMU_PRESENT | DIRECTORY);
-    put_table_word(512 * DIRECTORY, MMU_PRESENT | TABLE);
-    put_table_word(leaf_index, leaf);
+    put_table_word(mmu_directory_index(DIRECTORY, PAGE), MMU_PRESENT | TABLE);
+    put_table_word(mmu_leaf_index(TABLE, PAGE), leaf);
     return accepted("start", mmu_start(unit.registers, sizeof unit.registers, unit.buffer, sizeof unit.buffer)) &&
            set("CONTEXT 5", MMU_CONTEXT, PROGRAM) &&
            set("CTRL 7", MMU_CTRL, MMU_INV_EXC | MMU_ACC_EXC | MMU_WE_EXC) &&
@@ -103,7 +102,7 @@ static void store_word(const char *step, uint32_t index, uint32_t word)
 
 static void store_leaf(const char *step, uint32_t word)
 {
-    store_word(step, leaf_index, word);
+    store_word(step, mmu_leaf_index(TABLE, PAGE), word);
 }
 
 static void print_cause(const char *step)
@@ -127,7 +126,7 @@ static void print_refused(const char *step, uint64_t answer)
 static void refused_setting(const char *step)
 {
     before = unit;
-    print_refused(step, mmu_guarded_setting(unit.registers, sizeof unit.registers, MMU_CONTEXT, 63));
+    print_refused(step, mmu_guarded_setting(unit.registers, sizeof unit.registers, MMU_CONTEXT, NO_PROGRAM));
 }
 
 /* A buffer of the wrong length, in a store that would have brought the page back. */
@@ -135,7 +134,7 @@ static void refused_store(const char *step)
 {
     before = unit;
     print_refused(step, mmu_table_store(unit.registers, sizeof unit.registers, unit.buffer, sizeof unit.buffer - 1,
-                                        unit.tables, sizeof unit.tables, leaf_index, leaf));
+                                        unit.tables, sizeof unit.tables, mmu_leaf_index(TABLE, PAGE), leaf));
 }
 
 int main(void)
@@ -158,9 +157,9 @@ int main(void)
     raw("raw read");
     refused_store("store with a buffer of 511 bytes");
     served("read after it", false);
-    store_word("directory without a table", 512 * DIRECTORY, 0);
+    store_word("directory without a table", mmu_directory_index(DIRECTORY, PAGE), 0);
     served("read under it", false);
-    store_word("global root with number 0", GLOBAL_ROOT, MMU_PRESENT);
+    store_word("global root with number 0", MMU_GLOBAL_ROOT, MMU_PRESENT);
     served("read after that", false);
     return 0;
 }

@@ -13,7 +13,8 @@ extern "C" {
 
 /* The five calls. */
 
-/* Makes all registers 0 and every slot empty (its set's number as vpn15, page_id 63, all else 0), whatever the bytes held before. */
+/* Makes all registers 0 and every slot empty (its set's number as vpn15, page_id 63, all else 0), whatever the bytes held before. Bytes of
+ * zero are no empty buffer: each buffer needs this call before all others. */
 uint64_t mmu_start(uint8_t *registers, size_t registers_len,
                    uint8_t *buffer, size_t buffer_len);
 
@@ -46,6 +47,15 @@ uint64_t mmu_table_store(const uint8_t *registers, size_t registers_len,
 #define MMU_TABLE_BYTES_MAX 65536 /* The tables have at most this many bytes. */
 #define MMU_TABLE_BYTES_STEP 4096 /* The tables' length is a multiple of this. */
 #define MMU_SLOTS 64              /* The buffer has four sets of sixteen slots. */
+#define MMU_SETS 4                /* The buffer has this many sets, and a page has one slot in each. */
+#define MMU_SET_SLOTS 16          /* A set has this many slots. */
+
+/* Pages, and how they stand in the tables. */
+
+#define MMU_PAGE_BYTES 8192u     /* A page and a frame have this many bytes. */
+#define MMU_DIRECTORY_WORDS 512u /* Directory d is the words 512d to 512d + 511 of the tables. */
+#define MMU_TABLE_WORDS 1024u    /* Table t is the words 1024t to 1024t + 1023 of the tables. */
+#define MMU_GLOBAL_ROOT 63u      /* This word is the global root; the words 0 to 62 are the roots of the identifications 0 to 62. */
 
 /* The numbers of the registers that mmu_guarded_setting sets. */
 
@@ -98,6 +108,29 @@ uint64_t mmu_table_store(const uint8_t *registers, size_t registers_len,
 #define MMU_LEVEL_DIRECTORY 2u /* The word stands in a directory. */
 #define MMU_LEVEL_LEAF 3u      /* The word stands in a table. */
 
+/* The numbers of refusals, after each of them the calls that give it. A call gives the first that applies, from the top. Numbers from 8 on
+ * belong to other parts of the unit, and no call of this header gives them. */
+
+#define MMU_REFUSED_REGISTERS 1u /* Every call: the registers are not 44 bytes, or one exceeds its bits; a start judges only the length. */
+#define MMU_REFUSED_BUFFER 2u    /* Start, both accesses, store: the buffer is not 512 bytes. */
+#define MMU_REFUSED_TABLES 3u    /* Served access, store: the tables are too short, too long, or no multiple of 4,096 bytes. */
+#define MMU_REFUSED_DRAW 4u      /* Both accesses: the draw is above 3. */
+#define MMU_REFUSED_CONTEXT 5u   /* Setting: CONTEXT is to be above 62. Served access: CONTEXT is 63, or test mode is on. */
+#define MMU_REFUSED_INDEX 6u     /* Store: the tables have no word of this index. */
+#define MMU_REFUSED_SETTING 7u   /* Setting: the number is none of 0 to 5, or the value exceeds the register's bits. */
+
+/* The lowest bit of each field of an entry. */
+
+#define MMU_ENTRY_PFN_BIT 0      /* 19 bits are the pfn, the number of the page's frame. */
+#define MMU_ENTRY_WE_BIT 19      /* One bit says that the page may be written. */
+#define MMU_ENTRY_KERNEL_BIT 20  /* One bit says that the page is the kernel's. */
+#define MMU_ENTRY_VALID_BIT 21   /* One bit says that the page is valid. */
+#define MMU_ENTRY_GLOBAL_BIT 22  /* One bit says that the entry answers for every identification. */
+#define MMU_ENTRY_PAGE_ID_BIT 23 /* Six bits are the identification under which the entry was loaded. */
+#define MMU_ENTRY_VPN15_BIT 29   /* 15 bits are the page's vpn without its low four bits. */
+
+#define MMU_EMPTY_PAGE_ID 63u /* An empty slot has this page_id, and no program has it. */
+
 /* The lowest bit of each part of an answer. */
 
 #define MMU_ADDRESS_BIT 0      /* 32 bits are the address of an access. */
@@ -138,7 +171,10 @@ static inline bool mmu_excepted(uint64_t answer)
     return (answer >> MMU_EXCEPTED_BIT & 1u) != 0;
 }
 
-/* The value of the exception or fault, which is 0 where several entries hit and where there was none. */
+/* The value of the exception or fault, which is 0 where several entries hit and where there was none.
+ *
+ * An exception of value 0 usually means a buffer that was never started. After mmu_start, while the calls alone write registers, buffer
+ * and tables, no two entries hit under any identification from 0 to 62. */
 static inline uint32_t mmu_value(uint64_t answer)
 {
     return (uint32_t)(answer >> MMU_VALUE_BIT & 0xFFFFu);
@@ -180,12 +216,18 @@ static inline uint32_t mmu_emptied(uint64_t answer)
     return (uint32_t)(answer >> MMU_EMPTIED_BIT);
 }
 
-/* Words in bytes, most significant first. */
+/* Words and numbers in bytes, most significant first. */
 
 /* The word that begins at this byte, as registers + MMU_AT_CAUSE or tables + 4 * index. */
 static inline uint32_t mmu_get_word(const uint8_t *bytes)
 {
     return (uint32_t)bytes[0] << 24 | (uint32_t)bytes[1] << 16 | (uint32_t)bytes[2] << 8 | bytes[3];
+}
+
+/* The number of 64 bits that begins at this byte, as buffer + 8 * slot. */
+static inline uint64_t mmu_get_number(const uint8_t *bytes)
+{
+    return (uint64_t)mmu_get_word(bytes) << 32 | mmu_get_word(bytes + 4);
 }
 
 /* Writes the word that begins at this byte.
@@ -199,6 +241,76 @@ static inline void mmu_put_word(uint8_t *bytes, uint32_t word)
     bytes[1] = (uint8_t)(word >> 16);
     bytes[2] = (uint8_t)(word >> 8);
     bytes[3] = (uint8_t)word;
+}
+
+/* Where a page stands. */
+
+/* The vpn of an address: the number of its page, 19 bits. */
+static inline uint32_t mmu_vpn_of(uint32_t address)
+{
+    return address / MMU_PAGE_BYTES;
+}
+
+/* The index of a page's word in a directory. */
+static inline uint32_t mmu_directory_index(uint32_t directory, uint32_t vpn)
+{
+    return MMU_DIRECTORY_WORDS * directory + vpn / MMU_TABLE_WORDS;
+}
+
+/* The index of a page's leaf in a table. */
+static inline uint32_t mmu_leaf_index(uint32_t table, uint32_t vpn)
+{
+    return MMU_TABLE_WORDS * table + vpn % MMU_TABLE_WORDS;
+}
+
+/* The slot of a page in a set, 0 to 3. */
+static inline uint32_t mmu_slot_of(uint32_t set, uint32_t vpn)
+{
+    return MMU_SET_SLOTS * set + vpn % MMU_SET_SLOTS;
+}
+
+/* The slots of the buffer, 0 to 63. A host only reads them: the calls alone write the buffer. */
+
+/* The fields of an entry. */
+struct mmu_entry {
+    uint32_t vpn15;   /* The page's vpn without its low four bits. */
+    uint32_t page_id; /* The identification under which the entry was loaded. */
+    bool global;      /* The entry answers for every identification. */
+    bool valid;       /* The page is valid. */
+    bool kernel;      /* The page is the kernel's. */
+    bool we;          /* The page may be written. */
+    uint32_t pfn;     /* The number of the page's frame. */
+};
+
+/* The entry in a slot. What the slot holds above the entry's 44 bits is ignored. */
+static inline struct mmu_entry mmu_slot_entry(const uint8_t *buffer, uint32_t slot)
+{
+    uint64_t number = mmu_get_number(buffer + 8 * slot);
+    struct mmu_entry entry;
+
+    entry.vpn15 = (uint32_t)(number >> MMU_ENTRY_VPN15_BIT & 0x7FFFu);
+    entry.page_id = (uint32_t)(number >> MMU_ENTRY_PAGE_ID_BIT & 0x3Fu);
+    entry.global = (number >> MMU_ENTRY_GLOBAL_BIT & 1u) != 0;
+    entry.valid = (number >> MMU_ENTRY_VALID_BIT & 1u) != 0;
+    entry.kernel = (number >> MMU_ENTRY_KERNEL_BIT & 1u) != 0;
+    entry.we = (number >> MMU_ENTRY_WE_BIT & 1u) != 0;
+    entry.pfn = (uint32_t)(number >> MMU_ENTRY_PFN_BIT & 0x7FFFFu);
+    return entry;
+}
+
+/* Whether a slot is empty: its set's number as vpn15, page_id 63, all else 0. */
+static inline bool mmu_slot_empty(const uint8_t *buffer, uint32_t slot)
+{
+    struct mmu_entry entry = mmu_slot_entry(buffer, slot);
+
+    return entry.vpn15 == slot / MMU_SET_SLOTS && entry.page_id == MMU_EMPTY_PAGE_ID &&
+           !entry.global && !entry.valid && !entry.kernel && !entry.we && entry.pfn == 0;
+}
+
+/* The vpn for which a slot that is not empty answers. Its low four bits are the slot's, and no entry stores them. */
+static inline uint32_t mmu_slot_vpn(const uint8_t *buffer, uint32_t slot)
+{
+    return MMU_SET_SLOTS * mmu_slot_entry(buffer, slot).vpn15 + slot % MMU_SET_SLOTS;
 }
 
 #ifdef __cplusplus
