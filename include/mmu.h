@@ -115,7 +115,7 @@ uint64_t mmu_table_store(const uint8_t *registers, size_t registers_len,
 #define MMU_REFUSED_BUFFER 2u    /* Start, both accesses, store: the buffer is not 512 bytes. */
 #define MMU_REFUSED_TABLES 3u    /* Served access, store: the tables are too short, too long, or no multiple of 4,096 bytes. */
 #define MMU_REFUSED_DRAW 4u      /* Both accesses: the draw is above 3. */
-#define MMU_REFUSED_CONTEXT 5u   /* Setting: CONTEXT is to be above 62. Served access: CONTEXT is 63, or test mode is on. */
+#define MMU_REFUSED_SERVICE 5u   /* Setting: CONTEXT is to be above 62. Served access: CONTEXT is 63, or test mode is on. */
 #define MMU_REFUSED_INDEX 6u     /* Store: the tables have no word of this index. */
 #define MMU_REFUSED_SETTING 7u   /* Setting: the number is none of 0 to 5, or the value exceeds the register's bits. */
 

@@ -328,10 +328,10 @@ static void try_wrong_arguments(void)
 {
     expect("4 of a raw access", mmu_refusal(raw_with(R, B, MMU_SETS)), MMU_REFUSED_DRAW);
     expect("4 of a served access", mmu_refusal(served_with(R, B, T, MMU_SETS)), MMU_REFUSED_DRAW);
-    expect("5 of a setting", mmu_refusal(set_with(R, MMU_CONTEXT, MMU_EMPTY_PAGE_ID)), MMU_REFUSED_CONTEXT);
+    expect("5 of a setting", mmu_refusal(set_with(R, MMU_CONTEXT, MMU_EMPTY_PAGE_ID)), MMU_REFUSED_SERVICE);
     expect("a setting of the last identification", set_with(R, MMU_CONTEXT, MMU_EMPTY_PAGE_ID - 1), 0);
     mmu_put_word(registers + MMU_AT_TEST, 1);
-    expect("5 of a served access", mmu_refusal(served_with(R, B, T, 0)), MMU_REFUSED_CONTEXT);
+    expect("5 of a served access", mmu_refusal(served_with(R, B, T, 0)), MMU_REFUSED_SERVICE);
     mmu_put_word(registers + MMU_AT_TEST, 0);
     expect("6 of a store", mmu_refusal(store_with(R, B, T, T / 4)), MMU_REFUSED_INDEX);
     expect("7 of a setting", mmu_refusal(set_with(R, MMU_CONTEXT + 1, 0)), MMU_REFUSED_SETTING);

@@ -13,7 +13,7 @@ use Rattle.access.specs.Exceptions.{invExc}
 use Rattle.access.specs.Translation.{onHit, byHitCount, foundSet, pageMapped, translate}
 use Rattle.access.specs.AfterHit.{SameEntryHit, TakenAfterHit}
 
--- a miss and several hits read no field
+-- a miss and multiple hits read no field
 by-count : (n : ℕ) (r : Registers) (a : Access) (set : ℕ) (f g : Entry) → (n ≡ 1 → f ≡ g) → byHitCount n r a set f ≡ byHitCount n r a set g
 unfolding byHitCount
 by-count zero r a set f g same = refl

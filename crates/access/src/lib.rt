@@ -173,7 +173,7 @@ fn on_hit(r: Registers, a: Access, slot: u32, f: Entry) -> Translation
     no_exception(r, address)
 }
 
-// The buffer decides: a miss, one hit, or several, which are a bus fault.
+// The buffer decides: a miss, one hit, or multiple hits, which are a bus fault.
 fn page_mapped(r: Registers, buffer: &[u64], a: Access) -> Translation
     requires { ⌜ Accepted r (Buffer.Wide (now buffer)) a ⌝ }
     ensures { λ t. ⌜ t ≡ pageMapped r (Buffer.Wide (now (buffer .entry))) a ⌝ }

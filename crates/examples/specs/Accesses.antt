@@ -50,7 +50,7 @@ rows =
     ∷ (rawReply (row 0 1) started (user true pageByte 3) gives replied (Address pageByte) false true 8 (rowAfter 0 1 50 17))
     ∷ (rawReply (row 1 0) started (user true pageByte 3) gives replied None true true 8 (rowAfter 1 0 50 17))
     ∷ (rawReply (row 1 1) started (user true pageByte 3) gives replied None false true 8 (rowAfter 1 1 50 17))
-    -- several hits: an exception of value 0, and SELECT stays
+    -- multiple hits: an exception of value 0, and SELECT stays
     ∷ (rawReply (row 0 0) twoEntries (user true pageByte 3) gives replied (Address pageByte) false false 0 (row 0 0))
     ∷ (rawReply (row 0 1) twoEntries (user true pageByte 3) gives replied (Address pageByte) false true 0 (rowAfter 0 1 7 1))
     ∷ (rawReply (row 1 0) twoEntries (user true pageByte 3) gives replied None true true 0 (rowAfter 1 0 7 1))

@@ -60,7 +60,7 @@ served =
     -- absent and broken: as the first try left the registers, and the fault says where the walk stopped
     ∷ (servedReply (machine (enabled 5 7) started good) (user true 0x4000 1) gives answered (enabledAfter 5 7 18 2 17) (Fault 0x310) 0)
     ∷ (servedReply (machine (enabled 5 7) started globalBroken) reading gives answered (enabledAfter 5 7 33 1 16) (Fault 0x1120) 0)
-    -- several hits: fault value 0 and no load
+    -- multiple hits: fault value 0 and no load
     ∷ (servedReply (machine (enabled 5 7) twoEntries good) (user false pageByte 1)
     gives answered (enabledAfter 5 7 0 pageVpn 0) (Fault 0) 0)
     -- enable off is final; so is a linear segment

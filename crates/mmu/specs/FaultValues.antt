@@ -33,7 +33,7 @@ DecidedBy least (Absent s) outcome = IsFault (PossibleFault least (Absent s)) ou
 DecidedBy least (Broken s) outcome = IsFault (PossibleFault least (Broken s)) outcome
 
 -- Where its first try missed, an access is decided by its walk; else its fault, if it has one, is the try's, 7 at most. Among these is 0,
--- of several hits.
+-- of multiple hits.
 pub record ServedFault (m : Machine) (a : Access) (outcome : Outcome) : Type 0 where
   pub on-miss : missed (firstTry m a) ≡ true → DecidedBy 0 (walkFor m a) outcome
   pub no-miss : missed (firstTry m a) ≡ false → IfFault (λ value. value ≤ 7) outcome

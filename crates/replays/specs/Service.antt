@@ -34,7 +34,7 @@ pub record ContextServed (s : System) : Type 0 where
 abbrev pub KindHasColumn : Outcome → Type 0
 KindHasColumn = IfFault (λ value. hasColumn (faultKind value) ≡ true)
 
--- and not of kind 0, that of several hits
+-- and not of kind 0, that of multiple hits
 abbrev pub KindNot0 : Outcome → Type 0
 KindNot0 = IfFault (λ value. faultKind value ≡ 0 → ⊥)
 

@@ -20,7 +20,7 @@ use Rattle.sequence.specs.Systems.{System, begun, systemAfter, Moment, I
 use Rattle.sequence.specs.Systems.Moment.{Start, After}
 use Rattle.sequence.specs.Demand3.{HandedThroughout}
 
--- the least value of a fault: several hits, which give 0, do not occur
+-- the least value of a fault: multiple hits, which give 0, do not occur
 abbrev pub leastFault : ℕ
 leastFault = 1
 

@@ -121,7 +121,7 @@ fn value_on_one_hit(registers: Registers, entry: Entry, access: Access) -> u32 {
     value
 }
 
-/// The exception's value where there is one; several hits are an exception of value 0.
+/// The exception's value where there is one; multiple hits are an exception of value 0.
 fn exception_of(translation: Translation) -> Option<u32> {
     match translation {
         Translation::Linear { .. } => None,
@@ -132,7 +132,7 @@ fn exception_of(translation: Translation) -> Option<u32> {
     }
 }
 
-/// The linear address or the pfn's; none on a miss and on several hits.
+/// The linear address or the pfn's; none on a miss and on multiple hits.
 fn translated_address(translation: Translation) -> Option<u32> {
     match translation {
         Translation::Linear { address } => Some(address),

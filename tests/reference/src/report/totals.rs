@@ -38,7 +38,7 @@ impl Totals {
     }
 
     /// An accepted access. A fault counts by its kind, wherever a walk stopped; one with value 0,
-    /// several hits, has no total.
+    /// multiple hits, has no total.
     pub fn book_access(&mut self, outcome: Outcome, loads: u32) -> Result<(), Refusal> {
         add(&mut self.served, 1)?;
         add(&mut self.loads, i64::from(loads))?;
