@@ -46,9 +46,19 @@ build() {
 # there as nobody, who must reach it.
 begin() {
     building=yes
+    tidy
     touch "$mark" && room=$(mktemp -d) && chmod 711 "$room" || return 1
     TMPDIR=$room
     export TMPDIR
+}
+
+# Removes libraries that rt began and did not finish, as it has no stamp for them: it would stumble over half a one.
+tidy() {
+    [ -d "$target/stamp" ] || return 0
+    for library in "$target"/rlib/*; do
+        crate=${library##*/}
+        [ -e "$target/stamp/${crate%%.*}" ] || rm -rf "$library"
+    done
 }
 
 by_rt() {
@@ -145,6 +155,7 @@ stop() {
     wait
     if [ -n "$building" ]; then
         forget
+        tidy
         rm -f "$log"
     fi
     exit 2

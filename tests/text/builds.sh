@@ -1,4 +1,4 @@
-# shellcheck shell=bash disable=SC2154
+# shellcheck shell=bash disable=SC2030,SC2031,SC2154
 # How the scripts of bin/ build. Part of tests/text/scripts.sh, whose repository and helpers it uses.
 
 # runs BUILDS: a call from another folder, after which there were so many builds in all.
@@ -49,6 +49,11 @@ same_source() {
     touch "$work/unchanged" "$repository/crates/low/file" && runs 6 && runs 6 && rm "$work/unchanged"
 }
 
+# A source that changes during a build is newer than the program.
+source_changed_meanwhile() {
+    touch "$work/edit" "$repository/crates/low/file" && runs 7 && rm "$work/edit" && runs 8 && runs 8
+}
+
 # A failed build is not run, now or at the next call, although it left a program. Of the prover's lines those are
 # shown that say what failed; crates that only stand on it are not named.
 failed_build() {
@@ -57,14 +62,14 @@ failed_build() {
 fn side::call: not proved
 rt: side NOT PROVED (exit 1, 1 s)
 mmutrace: $sentence
-" && grep -qx 'rt: FAILED: side middle' "$repository/target/mmutrace.log" && rm "$work/fail" && runs 9 && runs 9
+" && grep -qx 'rt: FAILED: side middle' "$repository/target/mmutrace.log" && rm "$work/fail" && runs 11 && runs 11
 }
 
 # rt ended well, and there is no program: it was removed by hand.
 lost_program() {
     touch "$work/unchanged" && rm "$repository/target/bin/mmutrace" &&
         fails "rt ended well, but there is no target/bin/mmutrace: remove $repository/target, and call again" &&
-        rm "$work/unchanged" && runs 11
+        rm "$work/unchanged" && runs 13
 }
 
 # Without rt: what is current still runs, what is to be built does not.
@@ -83,32 +88,48 @@ without_flock() {
         mv "$work/setsid" "$work/no tools" && rm "$work/no tools/rt" "$work/no tools/cargo"
 }
 
-# together BUILDS SCRIPT..: calls at the same time on a fresh clone. All run, those that wait say so, and there are so
-# many builds.
+# together BUILDS SCRIPT..: calls at the same time on a fresh clone, of which the first build holds on until the others
+# say that they wait. All run, and there are so many builds.
 together() {
-    local expected=$1 i pids=() good=0
+    local expected=$1 script process processes=() calls=0 good=0 tries=0
     shift
     fresh
-    for ((i = 0; i < $#; i++)); do
-        (out=$work/out.$i errors=$work/errors.$i && call 7 "$repository/bin/${@:i+1:1}" "$work/whole.trace") &
-        pids+=($!)
+    rm -rf "$work/together" && mkdir "$work/together" && touch "$work/hold"
+    for script in "$@"; do
+        calls=$((calls + 1))
+        (
+            out=$work/together/out.$calls errors=$work/together/errors.$calls
+            call 7 "$repository/bin/$script" "$work/whole.trace"
+        ) &
+        processes+=($!)
     done
-    for ((i = 0; i < $#; i++)); do
-        wait "${pids[i]}" && grep -q '^arguments:' "$work/out.$i" && good=$((good + 1))
+    until [ "$(waiting)" -eq $((calls - 1)) ] || [ "$tries" -eq 100 ]; do
+        tries=$((tries + 1))
+        sleep 0.05
     done
-    [ "$good" -eq $# ] && [ "$(builds)" -eq "$expected" ] &&
-        [ "$(cat "$work"/errors.? | grep -c ': waiting for another call.s build$')" -eq $(($# - 1)) ]
+    rm "$work/hold"
+    for process in "${processes[@]}"; do
+        wait "$process" && good=$((good + 1))
+    done
+    [ "$good" -eq "$calls" ] && [ "$(builds)" -eq "$expected" ] && [ "$(waiting)" -eq $((calls - 1)) ]
 }
 
-# A build that is interrupted ends, with all that it started, and leaves no file: not the half program that would be
-# run next, no mark, no log, nothing among the temporary files. The script ends as the signal ends it.
+# How many calls have said that they wait.
+waiting() {
+    cat "$work/together"/errors.* 2>/dev/null | grep -c ": waiting for another call's build\$"
+}
+
+# interrupt HOW ENDING [SHELL]: a build that is interrupted ends, with all that it started, and leaves no file: no half
+# library, no half program that would be run next, no mark, no log, nothing among the temporary files. The script ends
+# as the signal ends it.
 interrupt() {
     local how=$1 ending=$2
     shift 2
     fresh && touch "$work/long" && call 0 python3 tests/text/terminal.py interrupt "$how" "$work/begun" "$@" "$repository/bin/mmutrace"
     rm "$work/long"
     printed "$ending"$'\n' && tail -n 1 "$errors" | grep -qxF 'mmutrace: interrupted: target/bin/mmutrace is not built' &&
-        [ -z "$(ls -A "$work/temporary")" ] && [ "$(ls -A "$repository/target")" = $'bin\nproved' ] && runs 2 && runs 2
+        [ -z "$(ls -A "$work/temporary")" ] && [ "$(ls -A "$repository/target")" = $'bin\nrlib\nstamp' ] &&
+        [ "$(ls -A "$repository/target/rlib")" = $'low.rlib\nmmutrace.rlib\nside.rlib' ] && runs 2 && runs 2
 }
 
 # A build of which all processes are killed cannot clear up. The half program is not run.
@@ -179,18 +200,24 @@ verdict "bin/mmutrace does not build at the second call" second_call
 verdict "bin/mmureport counts the crates that stay proved" another_program
 verdict "bin/mmutrace builds where it is older than a source, or missing" changed_source
 verdict "bin/mmutrace asks once about a source that is the same" same_source
+verdict "bin/mmutrace builds again what changed during a build" source_changed_meanwhile
 verdict "bin/mmutrace does not run what failed to build, and shows what failed" failed_build
 verdict "bin/mmutrace says where a program was lost" lost_program
 verdict "bin/mmutrace says where rt is missing" without_rt
 verdict "bin/mmutrace builds without flock and setsid" without_flock
-verdict "bin/mmutrace called four times at once builds once" together 1 mmutrace mmutrace mmutrace mmutrace
-verdict "bin/mmutrace and bin/mmureport called at once build one after the other" together 2 mmutrace mmureport mmureport mmutrace
+if command -v flock >/dev/null; then
+    verdict "bin/mmutrace called four times at once builds once" together 1 mmutrace mmutrace mmutrace mmutrace
+    verdict "bin/mmutrace and bin/mmureport called at once build one after the other" \
+        together 2 mmutrace mmureport mmureport mmutrace
+    verdict "a call that waits for a build can be interrupted" waiting_interrupted
+else
+    echo "not tried, since flock is not here: calls at the same time"
+fi
 for how in INT TERM HUP; do
     verdict "bin/mmutrace leaves nothing behind after $how" interrupt "$how" "SIG$how"
 done
 verdict "bin/mmutrace leaves nothing behind after Ctrl-C" interrupt Ctrl-C SIGINT
 verdict "bin/mmutrace does not run what a killed build left" killed
-verdict "a call that waits for a build can be interrupted" waiting_interrupted
 verdict "bin/mmutrace says where it cannot write" unwritable
 verdict "bin/mmutrace writes nothing where the program is current" reads_only
 verdict "bin/tracetext builds quietly" tracetext_builds

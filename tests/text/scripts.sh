@@ -33,9 +33,10 @@ cat
 exit 7
 TEXT
 
-# This rt eats standard input, says what the true one says, takes a moment and counts its calls. As the true one it
-# breaks where two run at once in one target/, and counts on crates that were proved before. Files beside the
-# repository tell it to fail, to leave a program as it is, or to leave half a program and then take long.
+# This rt eats standard input, says what the true one says, and counts its calls. As the true one it breaks where two
+# run at once in one target/, counts on crates that have a stamp, and stumbles over half a library. Files beside the
+# repository tell it to fail, to leave a program as it is, to change a source, to hold on, or to leave half a library
+# and half a program and then take long.
 cat >"$work/path/rt" <<'TEXT'
 #!/bin/sh
 case $* in
@@ -45,7 +46,7 @@ case $* in
 esac
 [ -f crates.txt ] || exit 9
 cat
-mkdir -p target/bin target/proved
+mkdir -p target/bin target/rlib target/stamp
 if ! mkdir target/running 2>/dev/null; then
     echo 'rt: low NOT PROVED (exit 2, 0 s)'
     exit 2
@@ -53,14 +54,23 @@ fi
 echo built >>../builds
 for crate in $crates; do
     echo "fn $crate::call: proved"
-    if [ -e target/proved/$crate ]; then
+    library=target/rlib/$crate.rlib
+    if [ -e target/stamp/$crate ]; then
         echo "rt: $crate proved (unchanged since it was last proved)"
+    elif [ -e $library ] && [ ! -e $library/whole ]; then
+        echo "rt: $crate NOT PROVED (exit 2, 1 s)"
+        rmdir target/running
+        exit 2
     else
+        mkdir -p $library
+        touch $library/whole target/stamp/$crate
         echo "rt: $crate proved (1 s)"
-        : >target/proved/$crate
     fi
 done
+[ ! -e ../edit ] || { sleep 0.1 && touch crates/low/file; }
 if [ -e ../long ]; then
+    rm target/stamp/middle target/rlib/middle.rlib/whole
+    mkdir target/rlib/middle.rlib.tmp-1
     echo half >target/bin/$2
     chmod +x target/bin/$2
     rmdir target/running
@@ -70,8 +80,8 @@ if [ -e ../long ]; then
     mv ../numbers ../begun
     wait
 fi
+while [ -e ../hold ]; do sleep 0.02; done
 if [ ! -e ../unchanged ]; then
-    sleep 0.2
     cp ../program target/bin/$2
     chmod +x target/bin/$2
 fi
