@@ -48,19 +48,19 @@ ready() {
     ! current || return 0
     group=setsid
     command -v setsid >/dev/null || group=
-    for signal in HUP INT TERM; do
+    for signal in HUP INT QUIT TERM; do
         # shellcheck disable=SC2064 # each trap has its own signal
         trap "interrupted $signal" "$signal"
     done
     # shellcheck disable=SC2086 # no group, no word
     $group sh "$bin/build.sh" "$name" $group </dev/null >&2 &
     wait "$!" || exit 2
-    trap - HUP INT TERM
+    trap - HUP INT QUIT TERM
 }
 
 # interrupted SIGNAL: stops the build, and ends as the signal would have ended this script.
 interrupted() {
-    trap '' HUP INT TERM
+    trap '' HUP INT QUIT TERM
     kill "$!" 2>/dev/null
     wait
     say "interrupted: $program is not built"

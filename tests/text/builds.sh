@@ -11,12 +11,14 @@ fails() {
     call 2 "$repository/bin/mmutrace" </dev/null && printed '' && grep -qxF "mmutrace: $1" "$errors"
 }
 
-first='is proved and built first'
-long='on two cores where none is proved yet'
+# announced PROGRAM CRATES TIME: the first line of a build.
+announced() {
+    echo "$1: target/bin/$1 is proved and built first: $2 crates, about $3 on two cores where none is proved yet"
+}
 
 # A line for each crate, and what the prover said in the log.
 first_call() {
-    fresh && runs 1 && said "mmutrace: target/bin/mmutrace $first: 4 crates, about two minutes $long
+    fresh && runs 1 && said "$(announced mmutrace 4 'two minutes')
 mmutrace: 1/4 low
 mmutrace: 2/4 side
 mmutrace: 3/4 middle
@@ -31,7 +33,7 @@ second_call() {
 # Crates that stay proved are counted, not shown.
 another_program() {
     call 7 "$repository/bin/mmureport" "$work/whole.trace" </dev/null && printed "arguments: <$work/whole.trace>
-" && said "mmureport: target/bin/mmureport $first: 5 crates, about three minutes $long
+" && said "$(announced mmureport 5 'three minutes')
 mmureport: 3/5 other
 mmureport: 5/5 mmureport
 "
@@ -88,10 +90,21 @@ without_flock() {
         mv "$work/setsid" "$work/no tools" && rm "$work/no tools/rt" "$work/no tools/cargo"
 }
 
+waits=": waiting for another call's build\$"
+
+# await COMMAND..: waits until the command succeeds, for some seconds at most.
+await() {
+    local tries=0
+    until "$@" || [ "$tries" -eq 100 ]; do
+        tries=$((tries + 1))
+        sleep 0.05
+    done
+}
+
 # together BUILDS SCRIPT..: calls at the same time on a fresh clone, of which the first build holds on until the others
 # say that they wait. All run, and there are so many builds.
 together() {
-    local expected=$1 script process processes=() calls=0 good=0 tries=0
+    local expected=$1 script process processes=() calls=0 good=0
     shift
     fresh
     rm -rf "$work/together" && mkdir "$work/together" && touch "$work/hold"
@@ -103,20 +116,17 @@ together() {
         ) &
         processes+=($!)
     done
-    until [ "$(waiting)" -eq $((calls - 1)) ] || [ "$tries" -eq 100 ]; do
-        tries=$((tries + 1))
-        sleep 0.05
-    done
+    await others_wait "$calls"
     rm "$work/hold"
     for process in "${processes[@]}"; do
         wait "$process" && good=$((good + 1))
     done
-    [ "$good" -eq "$calls" ] && [ "$(builds)" -eq "$expected" ] && [ "$(waiting)" -eq $((calls - 1)) ]
+    [ "$good" -eq "$calls" ] && [ "$(builds)" -eq "$expected" ] && others_wait "$calls"
 }
 
-# How many calls have said that they wait.
-waiting() {
-    cat "$work/together"/errors.* 2>/dev/null | grep -c ": waiting for another call's build\$"
+# others_wait CALLS: all calls but one have said that they wait.
+others_wait() {
+    [ "$(cat "$work/together"/errors.* 2>/dev/null | grep -c "$waits")" -eq $(($1 - 1)) ]
 }
 
 # interrupt HOW ENDING [SHELL]: a build that is interrupted ends, with all that it started, and leaves no file: no half
@@ -142,12 +152,13 @@ killed() {
 # A call that waits for another one's build can be interrupted, and the other goes on.
 waiting_interrupted() {
     local other
-    fresh && touch "$work/long" || return 1
+    fresh && rm -f "$work/waits" "$errors" && touch "$work/long" || return 1
     (errors=$work/errors.other out=$work/out.other && call 7 "$repository/bin/mmutrace" </dev/null) &
     other=$!
-    until [ -e "$work/begun" ]; do sleep 0.05; done
+    await [ -e "$work/begun" ]
     rm "$work/long"
-    call 0 python3 tests/text/terminal.py interrupt TERM "$work/begun" "$repository/bin/mmureport" "$work/whole.trace"
+    (await grep -qs "$waits" "$errors" && touch "$work/waits") &
+    call 0 python3 tests/text/terminal.py interrupt TERM "$work/waits" "$repository/bin/mmureport" "$work/whole.trace"
     # Without its sleep the other call's rt goes on.
     kill "$(cut -d ' ' -f 2 "$work/begun")"
     wait "$other" && printed $'SIGTERM\n' && runs 1
@@ -213,7 +224,7 @@ if command -v flock >/dev/null; then
 else
     echo "not tried, since flock is not here: calls at the same time"
 fi
-for how in INT TERM HUP; do
+for how in INT TERM HUP QUIT; do
     verdict "bin/mmutrace leaves nothing behind after $how" interrupt "$how" "SIG$how"
 done
 verdict "bin/mmutrace leaves nothing behind after Ctrl-C" interrupt Ctrl-C SIGINT

@@ -32,7 +32,7 @@ def start(command):
         fcntl.ioctl(its_terminal, termios.TIOCSCTTY, 0)
         os.dup2(its_terminal, 0)
         os.set_inheritable(held, True)
-        for name in (signal.SIGHUP, signal.SIGINT, signal.SIGTERM, signal.SIGPIPE):
+        for name in (signal.SIGHUP, signal.SIGINT, signal.SIGQUIT, signal.SIGTERM, signal.SIGPIPE):
             signal.signal(name, signal.SIG_DFL)
         os.execvp(command[0], command)
     os.close(its_terminal)
