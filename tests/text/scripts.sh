@@ -75,7 +75,7 @@ if [ -e ../long ]; then
     chmod +x target/bin/$2
     rmdir target/running
     echo left >"${TMPDIR:-/tmp}/left"
-    sleep 60 &
+    sleep 30 &
     echo $$ $! >../numbers
     mv ../numbers ../begun
     wait
@@ -144,9 +144,9 @@ builds() {
     if [ -e "$work/builds" ]; then wc -l <"$work/builds"; else echo 0; fi
 }
 
-# fresh: the repository as after a clone.
+# fresh: the repository as after a clone, and rt as it is by itself.
 fresh() {
-    rm -rf "$repository/target" "$work/builds" "$work/begun" "$work/temporary" && mkdir "$work/temporary"
+    (cd "$work" && rm -rf "$repository/target" builds begun temporary fail unchanged edit hold long && mkdir temporary)
 }
 
 # built: the programs of the repository are there and current.
