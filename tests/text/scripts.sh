@@ -1,143 +1,161 @@
 # shellcheck shell=bash disable=SC2154
 # The scripts of bin/, tried from other folders. Part of tests/text/check, whose verdict() and variables it uses.
-# bin/mmutrace and bin/mmureport are tried in a repository of their own, with an rt that builds a small program.
-
-# From another folder, through a symbolic link to a symbolic link, with a file named from that folder.
-from_another_folder() (
-    mkdir -p "$work/else where" && cd "$work/else where" || exit 1
-    ln -sf "$root/bin/tracetext" one && ln -sf one two && cp "$root/examples/aged.trace" . || exit 1
-    ./two decode aged.trace >text && "$root/bin/tracetext" encode <text | cmp - aged.trace
-)
-
-# The script's status and output are the program's.
-passes_errors_on() {
-    local out status
-    out=$(echo 'draw 1' | bin/tracetext encode 2>"$work/errors")
-    status=$?
-    [ "$status" -eq 1 ] && [ -z "$out" ] && grep -q '^tracetext: line 1: unknown word draw' "$work/errors"
-}
+# They are tried in a repository of their own, with an rt and a cargo that build small programs.
 
 repository="$work/a repository"
-mkdir -p "$repository/crates/a" "$work/path" "$work/no rt"
+mkdir -p "$repository/crates/low" "$repository/tools/tracetext/src" "$work/path" "$work/no tools" "$work/temporary"
 cp -R bin "$repository"
-echo a >"$repository/crates/a/file"
-echo a >"$repository/crates.txt"
-# Tools by name, in a folder without rt.
-for tool in sh dirname readlink find head mkdir touch rm flock cat sleep chmod; do
-    if command -v "$tool" >/dev/null; then
-        ln -s "$(command -v "$tool")" "$work/no rt/$tool"
-    fi
+echo a >"$repository/crates/low/file"
+cat >"$repository/crates.txt" <<'TEXT'
+# A comment: of no crate.
+low:
+side: low
+other: low # other
+middle: low side io
+mmutrace: middle
+mmureport: os middle other
+TEXT
+cp tools/tracetext/src/usage.txt "$repository/tools/tracetext/src"
+touch "$repository/tools/tracetext/Cargo.toml" "$repository/tools/tracetext/Cargo.lock"
+
+# A folder of tools by name, without rt, cargo and flock.
+for tool in sh dirname readlink find head tail mkdir mktemp touch rm cat sleep chmod setsid stat tr wc awk grep; do
+    ln -s "$(command -v "$tool")" "$work/no tools/$tool" || exit 2
 done
-# This rt eats standard input, talks on standard output, takes a moment and counts its calls. It can be told to
-# fail, and to leave a program as it is, as the true one does where nothing changed but a time.
-cat >"$work/path/rt" <<'END'
+
+# What both write as a program: it prints its arguments, then its input.
+cat >"$work/program" <<'TEXT'
 #!/bin/sh
-case $* in 'check mmutrace' | 'check mmureport') ;; *) exit 9 ;; esac
-[ -f crates.txt ] || exit 9
-cat
-echo 'rt: talk'
-echo built >>../builds
-[ ! -e ../unchanged ] || exit 0
-sleep 0.3
-mkdir -p target/bin
-cat >target/bin/$2 <<'PROGRAM'
-#!/bin/sh
-echo "arguments: $*"
+printf 'arguments:'
+[ $# -eq 0 ] || printf ' <%s>' "$@"
+echo
 cat
 exit 7
-PROGRAM
-chmod +x target/bin/$2
-[ ! -e ../fail ]
-END
-chmod +x "$work/path/rt"
+TEXT
+
+# This rt eats standard input, says what the true one says, and counts its calls. As the true one it breaks where two
+# run at once in one target/, counts on crates that have a stamp, and stumbles over half a library. Files beside the
+# repository tell it to fail, to leave a program as it is, to change a source, to hold on, or to leave half a library
+# and half a program and then take long.
+cat >"$work/path/rt" <<'TEXT'
+#!/bin/sh
+case $* in
+    'check mmutrace') crates='low side middle mmutrace' ;;
+    'check mmureport') crates='low side other middle mmureport' ;;
+    *) exit 9 ;;
+esac
+[ -f crates.txt ] || exit 9
+cat
+mkdir -p target/bin target/rlib target/stamp
+if ! mkdir target/running 2>/dev/null; then
+    echo 'rt: low NOT PROVED (exit 2, 0 s)'
+    exit 2
+fi
+echo built >>../builds
+for crate in $crates; do
+    echo "fn $crate::call: proved"
+    library=target/rlib/$crate.rlib
+    if [ -e target/stamp/$crate ]; then
+        echo "rt: $crate proved (unchanged since it was last proved)"
+    elif [ -e $library ] && [ ! -e $library/whole ]; then
+        echo "rt: $crate NOT PROVED (exit 2, 1 s)"
+        rmdir target/running
+        exit 2
+    else
+        mkdir -p $library
+        touch $library/whole target/stamp/$crate
+        echo "rt: $crate proved (1 s)"
+    fi
+done
+[ ! -e ../edit ] || { sleep 0.1 && touch crates/low/file; }
+if [ -e ../long ]; then
+    rm target/stamp/middle target/rlib/middle.rlib/whole
+    mkdir target/rlib/middle.rlib.tmp-1
+    echo half >target/bin/$2
+    chmod +x target/bin/$2
+    rmdir target/running
+    echo left >"${TMPDIR:-/tmp}/left"
+    sleep 30 &
+    echo $$ $! >../numbers
+    mv ../numbers ../begun
+    wait
+fi
+while [ -e ../hold ]; do sleep 0.02; done
+if [ ! -e ../unchanged ]; then
+    cp ../program target/bin/$2
+    chmod +x target/bin/$2
+fi
+rmdir target/running 2>/dev/null
+if [ -e ../fail ]; then
+    echo 'fn side::call: not proved'
+    echo 'rt: side NOT PROVED (exit 1, 1 s)'
+    echo 'rt: middle NOT PROVED: its dependency side is not proved'
+    echo 'rt: FAILED: side middle'
+    exit 1
+fi
+echo 'rt: ok, some crates proved'
+TEXT
+
+cat >"$work/path/cargo" <<'TEXT'
+#!/bin/sh
+echo '   Compiling tracetext'
+[ ! -e ../../../fail ] || { echo 'error: no such word' && exit 101; }
+mkdir -p target/release
+cp ../../../program target/release/tracetext
+chmod +x target/release/tracetext
+TEXT
+chmod +x "$work/program" "$work/path/rt" "$work/path/cargo"
+
+# A call of a script, from another folder, with what the script and the program said in these two files. Temporary
+# files go to a folder of the test's own.
+out=$work/out
+errors=$work/errors
+
+# call STATUS COMMAND..: the command, with standard input as it is, ends with this status.
+call() {
+    local expected=$1 status
+    shift
+    TMPDIR=$work/temporary PATH=$work/path:$PATH "$@" >"$out" 2>"$errors"
+    status=$?
+    if [ "$status" -ne "$expected" ]; then
+        echo "status $status of: $*"
+        cat "$errors"
+        return 1
+    fi
+}
+
+# bare STATUS COMMAND..: the same, without rt, cargo and flock on the path.
+bare() {
+    local expected=$1
+    shift
+    call "$expected" env PATH="$work/no tools" "$@"
+}
+
+# printed TEXT, said TEXT: all that came on standard output, on standard error.
+printed() {
+    printf '%s' "$1" | diff -a - "$out"
+}
+
+said() {
+    printf '%s' "$1" | diff -a - "$errors"
+}
 
 builds() {
     if [ -e "$work/builds" ]; then wc -l <"$work/builds"; else echo 0; fi
 }
 
-# runs BUILDS: a call from another folder, after which there were so many builds in all.
-runs() {
-    local out status
-    out=$(cd / && printf 'a\nb' | PATH=$work/path:$PATH "$repository/bin/mmutrace" x 'y z' 2>"$work/errors")
-    status=$?
-    [ "$status" -eq 7 ] && [ "$out" = $'arguments: x y z\na\nb' ] && [ "$(builds)" -eq "$1" ]
+# fresh: the repository as after a clone, and rt as it is by itself.
+fresh() {
+    (cd "$work" && rm -rf "$repository/target" builds begun temporary fail unchanged edit hold long && mkdir temporary)
 }
 
-# refused SENTENCE PATH: the call ends with status 2, writes nothing, and says this.
-refused() {
-    local out status
-    out=$(cd / && printf 'a\nb' | PATH=$2 "$repository/bin/mmutrace" 2>"$work/errors")
-    status=$?
-    [ "$status" -eq 2 ] && [ -z "$out" ] && grep -qxF "mmutrace: $1" "$work/errors"
+# built: the programs of the repository are there and current.
+built() {
+    call 7 "$repository/bin/mmutrace" </dev/null && call 7 "$repository/bin/mmureport" "$work/whole.trace" </dev/null
 }
 
-first_call() {
-    runs 1 && grep -qx 'rt: talk' "$work/errors"
-}
+printf 'abcdefghABCDEFGH' >"$work/whole.trace"
+printf '\1\2\3\4\5\6\7\10abc' >"$work/cut.trace"
 
-second_call() {
-    runs 1 && [ ! -s "$work/errors" ]
-}
-
-# Each changed source is one build; so is a program that is old or missing.
-changed_source() {
-    touch "$repository/crates/a/file" && runs 2 && touch "$repository/crates.txt" && runs 3 &&
-        touch -t 197001020000 "$repository/target/bin/mmutrace" && runs 4 &&
-        rm "$repository/target/bin/mmutrace" && runs 5 && runs 5
-}
-
-# A source that is newer but the same: rt is asked once, not at every call from then on.
-same_source() {
-    touch "$work/unchanged" "$repository/crates/a/file" && runs 6 && runs 6 && rm "$work/unchanged"
-}
-
-# A failed build is not run, now or at the next call, although it left a program.
-failed_build() {
-    local sentence='the build of target/bin/mmutrace failed, so it is not run'
-    touch "$work/fail" "$repository/crates.txt" &&
-        refused "$sentence" "$work/path:$PATH" && refused "$sentence" "$work/path:$PATH" &&
-        rm "$work/fail" && runs 9 && runs 9
-}
-
-# Without rt: what is current still runs, what is to be built does not.
-without_rt() {
-    local out
-    out=$(PATH="$work/no rt" "$repository/bin/mmutrace" </dev/null)
-    [ "$?" -eq 7 ] && [ "$out" = 'arguments: ' ] && touch "$repository/crates.txt" &&
-        refused 'target/bin/mmutrace is to be built, but rt is not on the path' "$work/no rt"
-}
-
-# Calls at the same time on a fresh clone: all run, and one builds. (Without flock each may build.)
-together() {
-    local i pids=() good=0 expected=1
-    rm -rf "$repository/target" "$work/builds"
-    command -v flock >/dev/null || expected=4
-    for i in 1 2 3 4; do
-        (echo "$i" | PATH=$work/path:$PATH "$repository/bin/mmutrace" >"$work/out.$i" 2>/dev/null) &
-        pids+=($!)
-    done
-    for i in 1 2 3 4; do
-        wait "${pids[i - 1]}"
-        [ "$?" -eq 7 ] && [ "$(cat "$work/out.$i")" = "arguments: "$'\n'"$i" ] && good=$((good + 1))
-    done
-    [ "$good" -eq 4 ] && [ "$(builds)" -le "$expected" ]
-}
-
-# The report program is built like the trace program, and gets its names as they are.
-report() {
-    local out status
-    out=$(cd / && PATH=$work/path:$PATH "$repository/bin/mmureport" 'a b' c 2>"$work/errors" </dev/null)
-    status=$?
-    [ "$status" -eq 7 ] && [ "$out" = 'arguments: a b c' ] && grep -qx 'rt: talk' "$work/errors"
-}
-
-verdict "bin/tracetext works from another folder" from_another_folder
-verdict "bin/tracetext passes status and messages on" passes_errors_on
-verdict "bin/mmutrace builds at the first call" first_call
-verdict "bin/mmutrace does not build at the second call" second_call
-verdict "bin/mmutrace builds where it is older than a source, or missing" changed_source
-verdict "bin/mmutrace asks once about a source that is the same" same_source
-verdict "bin/mmutrace does not run what failed to build" failed_build
-verdict "bin/mmutrace says where rt is missing" without_rt
-verdict "bin/mmutrace called four times at once builds once" together
-verdict "bin/mmureport builds at the first call" report
+. tests/text/builds.sh
+. tests/text/calls.sh

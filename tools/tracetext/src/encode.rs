@@ -17,8 +17,12 @@ impl fmt::Display for Error {
     }
 }
 
+/// The byte-order mark, which some editors put before a text. It says nothing about the records.
+const BYTE_ORDER_MARK: &[u8] = b"\xEF\xBB\xBF";
+
 /// The records of a text, or all of its errors in the order of its lines.
 pub fn encode(text: &[u8]) -> Result<Vec<u8>, Vec<Error>> {
+    let text = text.strip_prefix(BYTE_ORDER_MARK).unwrap_or(text);
     let mut encoder = Encoder::default();
     for (i, line) in text.split(|&b| b == b'\n').enumerate() {
         encoder.line = i + 1;
@@ -37,14 +41,17 @@ pub fn encode(text: &[u8]) -> Result<Vec<u8>, Vec<Error>> {
 #[derive(Default)]
 struct Encoder {
     line: usize,
+    /// The line of the first good tail, and whether a later line was reported for it.
     tail: Option<usize>,
+    followed: bool,
     bytes: Vec<u8>,
     errors: Vec<Error>,
 }
 
 impl Encoder {
     fn command(&mut self, command: &[u8], arguments: &[&[u8]]) {
-        if let Some(line) = self.tail {
+        if let (Some(line), false) = (self.tail, self.followed) {
+            self.followed = true;
             self.error(format!(
                 "nothing but comments may follow the tail of line {line}"
             ));
@@ -134,7 +141,6 @@ impl Encoder {
     }
 
     fn tail(&mut self, arguments: &[&[u8]]) {
-        self.tail = self.tail.or(Some(self.line));
         let [word] = arguments else {
             return self.error("tail takes 2 to 14 hexadecimal digits, an even number");
         };
@@ -147,6 +153,7 @@ impl Encoder {
                 digits.len()
             ));
         }
+        self.tail.get_or_insert(self.line);
         self.bytes.extend(bytes(digits));
     }
 
@@ -333,18 +340,45 @@ mod tests {
     }
 
     #[test]
-    fn nothing_follows_a_tail() {
+    fn a_tail_that_is_followed_is_reported_once() {
         assert_eq!(
-            messages("tail 00\n\n# free\ncontext 1\ntail 0\n"),
+            messages("tail 00\n\n# free\ncontext 1\nenable 1\ntail 01\ntail 0\nctrl 7\n"),
             "line 4: nothing but comments may follow the tail of line 1\n\
-             line 5: nothing but comments may follow the tail of line 1\n\
-             line 5: tail takes 2 to 14 hexadecimal digits, an even number, not 1\n"
+             line 7: tail takes 2 to 14 hexadecimal digits, an even number, not 1\n"
         );
+    }
+
+    #[test]
+    fn a_bad_tail_is_one_error() {
+        for (tail, message) in [
+            (
+                "tail",
+                "tail takes 2 to 14 hexadecimal digits, an even number",
+            ),
+            (
+                "tail 000",
+                "tail takes 2 to 14 hexadecimal digits, an even number, not 3",
+            ),
+            ("tail zz", "zz is no hexadecimal number"),
+        ] {
+            assert_eq!(
+                messages(&format!("{tail}\nenable 1\ncontext 2\n")),
+                format!("line 1: {message}\n")
+            );
+        }
+    }
+
+    #[test]
+    fn a_byte_order_mark_is_dropped_at_the_front_alone() {
+        assert_eq!(words("\u{feff}enable 1"), [0x7000_0000_0000_0001]);
         assert_eq!(
-            messages("tail\nenable 1"),
-            "line 1: tail takes 2 to 14 hexadecimal digits, an even number\n\
-             line 2: nothing but comments may follow the tail of line 1\n"
+            words("\u{feff}# a comment\nenable 1"),
+            [0x7000_0000_0000_0001]
         );
+        assert_eq!(encode("\u{feff}".as_bytes()), Ok(vec![]));
+        for text in ["\u{feff}\u{feff}enable 1", "\n\u{feff}enable 1"] {
+            assert!(messages(text).contains("unknown word \u{feff}enable: "));
+        }
     }
 
     #[test]

@@ -1,32 +1,36 @@
-//! The program: `tracetext encode [FILE]` and `tracetext decode [FILE]`.
+//! The program: `tracetext encode [FILE]`, `tracetext decode [FILE]` and `tracetext --help`.
 
 use std::env;
 use std::ffi::{OsStr, OsString};
 use std::fs;
 use std::io::{self, Read, Write};
 use std::process::ExitCode;
-use tracetext::{decode::decode, encode::encode};
+use tracetext::{decode::decode, encode::encode, words::plain};
 
-const USAGE: &str = "usage: tracetext encode [FILE]    text to records
-       tracetext decode [FILE]    records to text
-Without FILE standard input is read. The result goes to standard output.
-";
+const USAGE: &str = include_str!("usage.txt");
 
 fn main() -> ExitCode {
     let arguments: Vec<OsString> = env::args_os().skip(1).collect();
     let (direction, file) = match arguments.as_slice() {
+        [help, ..] if help == "--help" => return finish(write(USAGE.as_bytes())),
         [direction] => (direction, None),
         [direction, file] => (direction, Some(file.as_os_str())),
         _ => return usage(),
     };
     let result = match direction.to_str() {
         Some("encode") => read(file).and_then(|text| {
-            encode(&text).map_err(|errors| errors.iter().map(|e| e.to_string()).collect())
+            let name = shown(file);
+            encode(&text).map_err(|errors| errors.iter().map(|e| format!("{name}: {e}")).collect())
         }),
         Some("decode") => read(file).map(|bytes| decode(&bytes).into_bytes()),
         _ => return usage(),
     };
-    match result.and_then(|bytes| write(&bytes)) {
+    finish(result.and_then(|bytes| write(&bytes)))
+}
+
+/// Reports the errors, if there are any, and gives the exit status.
+fn finish(result: Result<(), Vec<String>>) -> ExitCode {
+    match result {
         Ok(()) => ExitCode::SUCCESS,
         Err(messages) => {
             let lines = messages.iter().map(|m| format!("tracetext: {m}\n"));
@@ -43,14 +47,22 @@ fn usage() -> ExitCode {
 
 /// All bytes of the file, or of standard input.
 fn read(file: Option<&OsStr>) -> Result<Vec<u8>, Vec<String>> {
-    let Some(file) = file else {
-        let mut bytes = Vec::new();
-        return match io::stdin().read_to_end(&mut bytes) {
-            Ok(_) => Ok(bytes),
-            Err(error) => Err(vec![format!("cannot read standard input: {error}")]),
-        };
+    let result = match file {
+        Some(file) => fs::read(file),
+        None => {
+            let mut bytes = Vec::new();
+            io::stdin().read_to_end(&mut bytes).map(|_| bytes)
+        }
     };
-    fs::read(file).map_err(|error| vec![format!("cannot read {}: {error}", file.to_string_lossy())])
+    result.map_err(|error| vec![format!("{}: cannot be read: {error}", shown(file))])
+}
+
+/// The name of the file, or of standard input, for a message.
+fn shown(file: Option<&OsStr>) -> String {
+    match file {
+        Some(file) => plain(&file.to_string_lossy()),
+        None => "standard input".to_string(),
+    }
 }
 
 /// Writes all bytes to standard output.

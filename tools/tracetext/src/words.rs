@@ -45,18 +45,21 @@ fn nibble(digit: u8) -> u8 {
     }
 }
 
-/// A word for a message: at most 40 characters, and none that would disturb a terminal.
+/// The most characters of a word that a message has.
+const SHOWN: usize = 40;
+
+/// A word for a message: not too long, and plain.
 pub fn shown(word: &[u8]) -> String {
     let text = String::from_utf8_lossy(word);
-    let mut shown: String = text
-        .chars()
-        .take(40)
-        .map(|c| if c.is_control() { '?' } else { c })
-        .collect();
-    if text.chars().nth(40).is_some() {
-        shown.push_str("..");
+    match text.char_indices().nth(SHOWN) {
+        Some((end, _)) => plain(&text[..end]) + "..",
+        None => plain(&text),
     }
-    shown
+}
+
+/// A text without characters that would disturb a terminal.
+pub fn plain(text: &str) -> String {
+    text.replace(char::is_control, "?")
 }
 
 #[cfg(test)]

@@ -55,17 +55,59 @@ fn files() {
 #[test]
 fn errors_of_the_text_leave_the_output_empty() {
     let text = b"enable 1\n\nstore 5\nread user 0 draw 4\ncontext 8G\n";
-    let errors = "tracetext: line 3: store takes an index and a value\n\
-                  tracetext: line 4: draw 4 is above 3\n\
-                  tracetext: line 5: 8G is no hexadecimal number\n";
-    assert_eq!(run(&["encode"], text), (1, vec![], errors.to_string()));
+    let errors = |name: &str| {
+        format!(
+            "tracetext: {name}: line 3: store takes an index and a value\n\
+             tracetext: {name}: line 4: draw 4 is above 3\n\
+             tracetext: {name}: line 5: 8G is no hexadecimal number\n"
+        )
+    };
+    assert_eq!(
+        run(&["encode"], text),
+        (1, vec![], errors("standard input"))
+    );
+    let path = file("errors.text", text);
+    let name = path.to_str().unwrap();
+    assert_eq!(run(&["encode", name], b""), (1, vec![], errors(name)));
+}
+
+#[test]
+fn a_name_disturbs_no_terminal() {
+    let path = file("odd\n\u{1b}\u{e9}.text", b"store\n");
+    let (status, _, errors) = run(&["encode", path.to_str().unwrap()], b"");
+    assert_eq!(status, 1);
+    assert!(errors.contains("odd??\u{e9}.text: line 1: "), "{errors}");
+}
+
+#[test]
+fn a_byte_order_mark_is_dropped() {
+    let text = b"\xEF\xBB\xBFstore 5 80000001\n";
+    assert_eq!(run(&["encode"], text), (0, BYTES.to_vec(), String::new()));
+}
+
+#[test]
+fn one_bad_tail_is_one_error() {
+    let (status, out, errors) = run(&["encode"], b"tail 0\nenable 1\nctrl 7\n");
+    assert_eq!((status, out), (1, vec![]));
+    assert_eq!(errors.lines().count(), 1, "{errors}");
+}
+
+const USAGE: &str = "usage: tracetext encode [FILE]";
+
+#[test]
+fn help() {
+    for call in [&["--help"] as &[&str], &["--help", "a", "b"]] {
+        let (status, out, errors) = run(call, b"");
+        assert_eq!((status, errors.as_str()), (0, ""));
+        assert!(out.starts_with(USAGE.as_bytes()));
+    }
 }
 
 #[test]
 fn usage() {
     let calls: [&[&str]; 6] = [
         &[],
-        &["--help"],
+        &["-h"],
         &["Encode"],
         &["encode", "a", "b"],
         &["decode", "a", "b"],
@@ -74,10 +116,7 @@ fn usage() {
     for call in calls {
         let (status, out, errors) = run(call, b"");
         assert_eq!((status, out), (2, vec![]), "{call:?}");
-        assert!(
-            errors.starts_with("usage: tracetext encode [FILE]"),
-            "{errors}"
-        );
+        assert!(errors.starts_with(USAGE), "{errors}");
     }
 }
 
@@ -86,12 +125,15 @@ fn a_failed_read_is_reported() {
     let (status, out, errors) = run(&["encode", "no/such/file"], b"enable 1\n");
     assert_eq!((status, out), (1, vec![]));
     assert!(
-        errors.starts_with("tracetext: cannot read no/such/file: "),
+        errors.starts_with("tracetext: no/such/file: cannot be read: "),
         "{errors}"
     );
     let (status, out, errors) = run(&["decode", "/"], b"");
     assert_eq!((status, out), (1, vec![]));
-    assert!(errors.starts_with("tracetext: cannot read /: "), "{errors}");
+    assert!(
+        errors.starts_with("tracetext: /: cannot be read: "),
+        "{errors}"
+    );
     // Standard input that is a folder cannot be read.
     let output = Command::new(env!("CARGO_BIN_EXE_tracetext"))
         .arg("encode")
@@ -101,7 +143,7 @@ fn a_failed_read_is_reported() {
     let errors = String::from_utf8(output.stderr).unwrap();
     assert_eq!(output.status.code(), Some(1));
     assert!(
-        errors.starts_with("tracetext: cannot read standard input: "),
+        errors.starts_with("tracetext: standard input: cannot be read: "),
         "{errors}"
     );
 }

@@ -1,0 +1,242 @@
+# shellcheck shell=bash disable=SC2030,SC2031,SC2154
+# How the scripts of bin/ build. Part of tests/text/scripts.sh, whose repository and helpers it uses.
+
+# runs BUILDS: a call from another folder, after which there were so many builds in all.
+runs() {
+    (cd / && printf 'a\nb' | call 7 "$repository/bin/mmutrace") && printed $'arguments:\na\nb' && [ "$(builds)" -eq "$1" ]
+}
+
+# fails SENTENCE: a call that ends with status 2, writes nothing, and says this.
+fails() {
+    call 2 "$repository/bin/mmutrace" </dev/null && printed '' && grep -qxF "mmutrace: $1" "$errors"
+}
+
+# announced PROGRAM CRATES TIME: the first line of a build.
+announced() {
+    echo "$1: target/bin/$1 is proved and built first: $2 crates, about $3 on two cores where none is proved yet"
+}
+
+# A line for each crate, and what the prover said in the log.
+first_call() {
+    fresh && runs 1 && said "$(announced mmutrace 4 'two minutes')
+mmutrace: 1/4 low
+mmutrace: 2/4 side
+mmutrace: 3/4 middle
+mmutrace: 4/4 mmutrace
+" && grep -qx 'fn low::call: proved' "$repository/target/mmutrace.log"
+}
+
+second_call() {
+    runs 1 && said ''
+}
+
+# Crates that stay proved are counted, not shown.
+another_program() {
+    call 7 "$repository/bin/mmureport" "$work/whole.trace" </dev/null && printed "arguments: <$work/whole.trace>
+" && said "$(announced mmureport 5 'three minutes')
+mmureport: 3/5 other
+mmureport: 5/5 mmureport
+"
+}
+
+# Each changed source is one build; so is a program that is old or missing.
+changed_source() {
+    fresh && runs 1 && touch "$repository/crates/low/file" && runs 2 && touch "$repository/crates.txt" && runs 3 &&
+        touch -t 197001020000 "$repository/target/bin/mmutrace" && runs 4 &&
+        rm "$repository/target/bin/mmutrace" && runs 5 && runs 5
+}
+
+# A source that is newer but the same: rt is asked once, not at every call from then on.
+same_source() {
+    touch "$work/unchanged" "$repository/crates/low/file" && runs 6 && runs 6 && rm "$work/unchanged"
+}
+
+# A source that changes during a build is newer than the program.
+source_changed_meanwhile() {
+    touch "$work/edit" "$repository/crates/low/file" && runs 7 && rm "$work/edit" && runs 8 && runs 8
+}
+
+# A failed build is not run, now or at the next call, although it left a program. Of the prover's lines those are
+# shown that say what failed; crates that only stand on it are not named.
+failed_build() {
+    local sentence="the build of target/bin/mmutrace failed, so it is not run: $repository/target/mmutrace.log has all that rt said"
+    touch "$work/fail" "$repository/crates.txt" && fails "$sentence" && fails "$sentence" && sed -i 1d "$errors" && said "\
+fn side::call: not proved
+rt: side NOT PROVED (exit 1, 1 s)
+mmutrace: $sentence
+" && grep -qx 'rt: FAILED: side middle' "$repository/target/mmutrace.log" && rm "$work/fail" && runs 11 && runs 11
+}
+
+# rt ended well, and there is no program: it was removed by hand.
+lost_program() {
+    touch "$work/unchanged" && rm "$repository/target/bin/mmutrace" &&
+        fails "rt ended well, but there is no target/bin/mmutrace: remove $repository/target, and call again" &&
+        rm "$work/unchanged" && runs 13
+}
+
+# Without rt: what is current still runs, what is to be built does not.
+without_rt() {
+    fresh && built && bare 7 "$repository/bin/mmutrace" </dev/null && said '' && touch "$repository/crates.txt" &&
+        bare 2 "$repository/bin/mmutrace" </dev/null && printed '' &&
+        said $'mmutrace: target/bin/mmutrace is to be built, but rt is not on the path\n'
+}
+
+# Without flock, and without setsid: it is built all the same.
+without_flock() {
+    fresh && ln -s "$work/path/rt" "$work/path/cargo" "$work/no tools" && ln -s "$(command -v cp)" "$(command -v rmdir)" "$work/no tools" &&
+        bare 7 "$repository/bin/mmutrace" </dev/null &&
+        grep -qxF 'mmutrace: flock is not on the path, so start no other call before this build has ended' "$errors" &&
+        mv "$work/no tools/setsid" "$work" && touch "$repository/crates.txt" && bare 7 "$repository/bin/mmutrace" </dev/null &&
+        mv "$work/setsid" "$work/no tools" && rm "$work/no tools/rt" "$work/no tools/cargo"
+}
+
+waits=": waiting for another call's build\$"
+
+# await COMMAND..: waits until the command succeeds, for some seconds at most.
+await() {
+    local tries=0
+    until "$@" || [ "$tries" -eq 100 ]; do
+        tries=$((tries + 1))
+        sleep 0.05
+    done
+}
+
+# together BUILDS SCRIPT..: calls at the same time on a fresh clone, of which the first build holds on until the others
+# say that they wait. All run, and there are so many builds.
+together() {
+    local expected=$1 script process processes=() calls=0 good=0
+    shift
+    fresh
+    rm -rf "$work/together" && mkdir "$work/together" && touch "$work/hold"
+    for script in "$@"; do
+        calls=$((calls + 1))
+        (
+            out=$work/together/out.$calls errors=$work/together/errors.$calls
+            call 7 "$repository/bin/$script" "$work/whole.trace"
+        ) &
+        processes+=($!)
+    done
+    await others_wait "$calls"
+    rm "$work/hold"
+    for process in "${processes[@]}"; do
+        wait "$process" && good=$((good + 1))
+    done
+    [ "$good" -eq "$calls" ] && [ "$(builds)" -eq "$expected" ] && others_wait "$calls"
+}
+
+# others_wait CALLS: all calls but one have said that they wait.
+others_wait() {
+    [ "$(cat "$work/together"/errors.* 2>/dev/null | grep -c "$waits")" -eq $(($1 - 1)) ]
+}
+
+# interrupt HOW ENDING [SHELL]: a build that is interrupted ends, with all that it started, and leaves no file: no half
+# library, no half program that would be run next, no mark, no log, nothing among the temporary files. The script ends
+# as the signal ends it.
+interrupt() {
+    local how=$1 ending=$2
+    shift 2
+    fresh && touch "$work/long" && call 0 python3 tests/text/terminal.py interrupt "$how" "$work/begun" "$@" "$repository/bin/mmutrace"
+    rm "$work/long"
+    printed "$ending"$'\n' && tail -n 1 "$errors" | grep -qxF 'mmutrace: interrupted: target/bin/mmutrace is not built' &&
+        [ -z "$(ls -A "$work/temporary")" ] && [ "$(ls -A "$repository/target")" = $'bin\nrlib\nstamp' ] &&
+        [ "$(ls -A "$repository/target/rlib")" = $'low.rlib\nmmutrace.rlib\nside.rlib' ] && runs 2 && runs 2
+}
+
+# A build of which all processes are killed cannot clear up. The half program is not run.
+killed() {
+    fresh && touch "$work/long" && call 0 python3 tests/text/terminal.py interrupt all "$work/begun" "$repository/bin/mmutrace"
+    rm "$work/long"
+    printed $'SIGKILL\n' && runs 2 && runs 2
+}
+
+# A call that waits for another one's build can be interrupted, and the other goes on.
+waiting_interrupted() {
+    local other
+    fresh && rm -f "$work/waits" "$errors" && touch "$work/long" || return 1
+    (errors=$work/errors.other out=$work/out.other && call 7 "$repository/bin/mmutrace" </dev/null) &
+    other=$!
+    await [ -e "$work/begun" ]
+    rm "$work/long"
+    (await grep -qs "$waits" "$errors" && touch "$work/waits") &
+    call 0 python3 tests/text/terminal.py interrupt TERM "$work/waits" "$repository/bin/mmureport" "$work/whole.trace"
+    # Without its sleep the other call's rt goes on.
+    kill "$(cut -d ' ' -f 2 "$work/begun")"
+    wait "$other" && printed $'SIGTERM\n' && runs 1
+}
+
+# Where target/ cannot be made there is one sentence.
+unwritable() {
+    fresh && touch "$repository/target" && call 2 "$repository/bin/mmutrace" </dev/null && printed '' &&
+        said "mmutrace: target/bin/mmutrace is to be built, but $repository/target cannot be written: take a copy of the repository that you may write
+"
+}
+
+listed() {
+    find "$repository" -printf '%p %s %T@ %C@\n'
+}
+
+# A call that finds the program current writes nothing to the repository, so that it may be read-only.
+reads_only() {
+    local before
+    fresh && built && before=$(listed) && call 7 "$repository/bin/mmutrace" </dev/null && [ "$(listed)" = "$before" ]
+}
+
+tracetext_builds() {
+    fresh && rm -rf "$repository/tools/tracetext/target" && call 7 "$repository/bin/tracetext" decode 'a b' </dev/null &&
+        printed $'arguments: <decode> <a b>\n' &&
+        said $'tracetext: tools/tracetext/target/release/tracetext is built first: a few seconds\n' &&
+        call 7 "$repository/bin/tracetext" decode </dev/null && said ''
+}
+
+tracetext_fails() {
+    local log=tools/tracetext/target/tracetext.log
+    touch "$work/fail" "$repository/tools/tracetext/Cargo.toml" && call 2 "$repository/bin/tracetext" decode </dev/null
+    rm "$work/fail"
+    sed -i 1d "$errors" && said "error: no such word
+tracetext: the build of tools/tracetext/target/release/tracetext failed, so it is not run: $repository/$log has all that cargo said
+" && grep -q Compiling "$repository/$log"
+}
+
+# under SHELL: the scripts, run by this shell.
+under() {
+    local shell
+    shell=$(command -v "$1") && mkdir -p "$work/$1" && ln -sf "$shell" "$work/$1/sh" && cp "$work/path/rt" "$work/$1" || return 1
+    (PATH=$work/$1:$PATH && interrupt INT SIGINT sh && fresh && call 7 sh "$repository/bin/mmutrace" "$work/whole.trace" &&
+        cmp -s <(tail -n +2 "$out") "$work/whole.trace" && grep -qx 'mmutrace: 4/4 mmutrace' "$errors" &&
+        call 2 sh "$repository/bin/mmutrace" <&- && call 2 sh "$repository/bin/mmutrace" none)
+}
+
+verdict "bin/mmutrace builds at the first call, and shows each crate" first_call
+verdict "bin/mmutrace does not build at the second call" second_call
+verdict "bin/mmureport counts the crates that stay proved" another_program
+verdict "bin/mmutrace builds where it is older than a source, or missing" changed_source
+verdict "bin/mmutrace asks once about a source that is the same" same_source
+verdict "bin/mmutrace builds again what changed during a build" source_changed_meanwhile
+verdict "bin/mmutrace does not run what failed to build, and shows what failed" failed_build
+verdict "bin/mmutrace says where a program was lost" lost_program
+verdict "bin/mmutrace says where rt is missing" without_rt
+verdict "bin/mmutrace builds without flock and setsid" without_flock
+if command -v flock >/dev/null; then
+    verdict "bin/mmutrace called four times at once builds once" together 1 mmutrace mmutrace mmutrace mmutrace
+    verdict "bin/mmutrace and bin/mmureport called at once build one after the other" \
+        together 2 mmutrace mmureport mmureport mmutrace
+    verdict "a call that waits for a build can be interrupted" waiting_interrupted
+else
+    echo "not tried, since flock is not here: calls at the same time"
+fi
+for how in INT TERM HUP QUIT; do
+    verdict "bin/mmutrace leaves nothing behind after $how" interrupt "$how" "SIG$how"
+done
+verdict "bin/mmutrace leaves nothing behind after Ctrl-C" interrupt Ctrl-C SIGINT
+verdict "bin/mmutrace does not run what a killed build left" killed
+verdict "bin/mmutrace says where it cannot write" unwritable
+verdict "bin/mmutrace writes nothing where the program is current" reads_only
+verdict "bin/tracetext builds quietly" tracetext_builds
+verdict "bin/tracetext shows what failed" tracetext_fails
+for shell in dash bash; do
+    if command -v "$shell" >/dev/null; then
+        verdict "the scripts run under $shell" under "$shell"
+    else
+        echo "not tried, since it is not here: $shell"
+    fi
+done
