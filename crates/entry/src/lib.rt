@@ -13,25 +13,13 @@ pub const FRAMES: u32 = 1 << 19;
 // How many bytes a page has: an offset has 13 bits.
 pub const PAGE: u32 = 1 << 13;
 
-// How many values a vpn15 has, of 15 bits, and a pfn.
+// How many values a vpn15 has: 15 bits.
 pub const VPN15S: u32 = 1 << 15;
 
+// The same for a number of 64 bits.
 const WIDE_VPN15S: u64 = VPN15S as u64;
 
 const WIDE_FRAMES: u64 = FRAMES as u64;
-
-// What the lowest bit of each field counts in an entry's number.
-const VPN15: u64 = 1 << 29;
-
-const PAGE_ID: u64 = 1 << 23;
-
-const GLOBAL: u32 = 1 << 22;
-
-const VALID: u32 = 1 << 21;
-
-const KERNEL: u32 = 1 << 20;
-
-const WE: u32 = 1 << 19;
 
 // The 44 bits of an entry, by their fields.
 pub struct Entry {
@@ -86,6 +74,19 @@ pub fn unpack(e: u64) -> Entry
         pfn: (e % WIDE_FRAMES) as u32,
     }
 }
+
+// What the lowest bit of each field counts in an entry's number.
+const VPN15: u64 = 1 << 29;
+
+const PAGE_ID: u64 = 1 << 23;
+
+const GLOBAL: u32 = 1 << 22;
+
+const VALID: u32 = 1 << 21;
+
+const KERNEL: u32 = 1 << 20;
+
+const WE: u32 = 1 << 19;
 
 // An entry from its vpn15, its page_id and its bits 22 to 0.
 pub fn join(vpn15: u32, page_id: u32, low: u32) -> u64

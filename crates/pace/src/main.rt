@@ -27,14 +27,14 @@ const HELD: u32 = 3000;
 
 const WIDE_HELD: u64 = HELD as u64;
 
-// Directory 1, table 1 and its first leaf, by their words' indexes, and the word that names either.
+// Where directory 1 and table 1 begin, and the word that names either.
 const DIRECTORY: u32 = page_table::DIRECTORY as u32;
 
 const TABLE: u32 = page_table::TABLE as u32;
 
 const NUMBER_1: u32 = page_table::PRESENT + 1;
 
-// A leaf that may be read and written, and one with the first frame of the pages.
+// A leaf that may be read and written; with the frame of page 0.
 const LEAF: u32 = page_table::PRESENT + page_table::VALID + page_table::WE;
 
 const FIRST_LEAF: u32 = LEAF + 256;

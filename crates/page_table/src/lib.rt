@@ -12,18 +12,12 @@ ghost use Rattle.page_table.specs.Reads.{leadsOn};
 ghost use Rattle.page_table.specs.Ends.{endAt, endRead, decided, ending};
 ghost use Rattle.page_table.specs.Faults.{faultKind, stopPlace, walkFault};
 
-// How many words a table and a directory have, and how many the longest run.
+// How many words a table has, a directory, and the longest run.
 pub const TABLE: usize = 1024;
 
 pub const DIRECTORY: usize = 512;
 
 const LONGEST: usize = 1 << 26;
-
-// How many pages a table has leaves for.
-const TABLE_PAGES: u32 = TABLE as u32;
-
-// The root of the global tree.
-const GLOBAL_ROOT: u32 = 63;
 
 // The highest bits of a table word: present, and in a leaf valid and write enable.
 pub const PRESENT: u32 = 1 << 31;
@@ -31,26 +25,6 @@ pub const PRESENT: u32 = 1 << 31;
 pub const VALID: u32 = 1 << 30;
 
 pub const WE: u32 = 1 << 28;
-
-// How many values the 16 bits of a number have, and the 15 reserved bits above it.
-const NUMBERS: u32 = 1 << 16;
-
-const RESERVED: u32 = 1 << 15;
-
-// What the lowest bit of the word counts in a walk's end.
-const END_WORD: u64 = 1 << 32;
-
-// The kinds of the faults after a walk: a leaf was found, absent, broken.
-const MISS: u32 = 8;
-
-pub const ABSENT: u32 = 16;
-
-pub const BROKEN: u32 = 32;
-
-// A fault's kind is below the lowest bit of its level; above the four bits of that is the global tree's bit.
-const LEVEL: u32 = 1 << 8;
-
-const GLOBAL_TREE: u32 = 1 << 12;
 
 // A leaf: whether it stands in the global tree, its word, and the word's index in the run.
 pub struct Found {
@@ -86,6 +60,9 @@ pub fn stretch_size(levels: u32) -> usize
     if levels == 0 { TABLE } else { DIRECTORY }
 }
 
+// How many pages a table has leaves for.
+const TABLE_PAGES: u32 = TABLE as u32;
+
 // The index of a page's word in such a stretch.
 pub fn index_in(levels: u32, vpn: u32) -> usize
     ensures { λ r. ⌜ r ≡ indexIn levels vpn ⌝ }
@@ -103,6 +80,11 @@ pub fn is_present(word: u32) -> bool
 {
     (word >> 31) % 2 == 1
 }
+
+// How many values a number has, of 16 bits, and the 15 reserved bits above it.
+const NUMBERS: u32 = 1 << 16;
+
+const RESERVED: u32 = 1 << 15;
 
 // The number of the directory or table that a root or directory word names.
 pub fn number_of(word: u32) -> usize
@@ -148,6 +130,9 @@ pub fn index_below(vpn: u32, levels: u32, word: u32) -> u32
     let size = stretch_size(levels);
     (size * number_of(word) + index_in(levels, vpn)) as u32
 }
+
+// What the lowest bit of the word counts in a walk's end.
+const END_WORD: u64 = 1 << 32;
 
 // A walk's end in one number: the word that decides, above 32 bits that are four times the word's index and the levels below it.
 pub fn end_at(levels: u32, word: u32, index: u32) -> u64
@@ -218,6 +203,9 @@ fn walk_tree(words: &[u32], vpn: u32, global: bool, root: u32) -> Walk
     ended(global, end)
 }
 
+// The root of the global tree.
+const GLOBAL_ROOT: u32 = 63;
+
 // The walk of a page under an identification: the global tree first, and the own tree where that has nothing.
 pub fn walk_page(words: &[u32], id: u32, vpn: u32) -> Walk
     requires { ⌜ (id ≤ 63) × (vpn < PAGES) × (ROOTS ≤ length (now words)) ⌝ }
@@ -229,6 +217,18 @@ pub fn walk_page(words: &[u32], id: u32, vpn: u32) -> Walk
     };
     walk_tree(words, vpn, false, id)
 }
+
+// The kinds of a fault after a walk: it found a leaf, it was absent, or it was broken.
+const MISS: u32 = 8;
+
+pub const ABSENT: u32 = 16;
+
+pub const BROKEN: u32 = 32;
+
+// What the lowest bit of the level counts in a fault value, above the kind, and the bit of the global tree.
+const LEVEL: u32 = 1 << 8;
+
+const GLOBAL_TREE: u32 = 1 << 12;
 
 // Where a walk stopped, as a fault value carries it: the level in bits 8 to 11, and bit 12 for the global tree.
 fn stop_place(stop: Stop) -> u32
