@@ -14,9 +14,9 @@ const SERVED: u32 = 0;
 
 const LOADS: u32 = 1;
 
-const ABSENT: u32 = 10;
+const ABSENT_FAULTS: u32 = 10;
 
-const BROKEN: u32 = 11;
+const BROKEN_FAULTS: u32 = 11;
 
 const EMPTIED: u32 = 12;
 
@@ -37,9 +37,9 @@ fn fault_column(kind: u32) -> u32
         return kind + 1;
     }
     if kind == page_table::ABSENT {
-        return ABSENT;
+        return ABSENT_FAULTS;
     }
-    BROKEN
+    BROKEN_FAULTS
 }
 
 // The number as a signed one.
