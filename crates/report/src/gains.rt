@@ -9,7 +9,7 @@ ghost use Rattle.report.specs.Totals.{AllWithin, BookAllGives, CHANGE, E
 use crate::totals::book;
 use registers::Outcome;
 
-// The columns of the totals; those from 2 on are the faults'.
+// The columns of the totals; those from 2 to 11 are the faults'.
 const SERVED: u32 = 0;
 
 const LOADS: u32 = 1;
