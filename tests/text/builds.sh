@@ -48,30 +48,30 @@ changed_source() {
 
 # A source that is newer but the same: rt is asked once, not at every call from then on.
 same_source() {
-    touch "$work/unchanged" "$repository/crates/low/file" && runs 6 && runs 6 && rm "$work/unchanged"
+    fresh && runs 1 && touch "$work/unchanged" "$repository/crates/low/file" && runs 2 && runs 2
 }
 
 # A source that changes during a build is newer than the program.
 source_changed_meanwhile() {
-    touch "$work/edit" "$repository/crates/low/file" && runs 7 && rm "$work/edit" && runs 8 && runs 8
+    fresh && touch "$work/edit" && runs 1 && rm "$work/edit" && runs 2 && runs 2
 }
 
 # A failed build is not run, now or at the next call, although it left a program. Of the prover's lines those are
 # shown that say what failed; crates that only stand on it are not named.
 failed_build() {
     local sentence="the build of target/bin/mmutrace failed, so it is not run: $repository/target/mmutrace.log has all that rt said"
-    touch "$work/fail" "$repository/crates.txt" && fails "$sentence" && fails "$sentence" && sed -i 1d "$errors" && said "\
+    fresh && touch "$work/fail" && fails "$sentence" && fails "$sentence" && sed -i 1d "$errors" && said "\
 fn side::call: not proved
 rt: side NOT PROVED (exit 1, 1 s)
 mmutrace: $sentence
-" && grep -qx 'rt: FAILED: side middle' "$repository/target/mmutrace.log" && rm "$work/fail" && runs 11 && runs 11
+" && grep -qx 'rt: FAILED: side middle' "$repository/target/mmutrace.log" && rm "$work/fail" && runs 3 && runs 3
 }
 
 # rt ended well, and there is no program: it was removed by hand.
 lost_program() {
-    touch "$work/unchanged" && rm "$repository/target/bin/mmutrace" &&
+    fresh && runs 1 && touch "$work/unchanged" && rm "$repository/target/bin/mmutrace" &&
         fails "rt ended well, but there is no target/bin/mmutrace: remove $repository/target, and call again" &&
-        rm "$work/unchanged" && runs 13
+        rm "$work/unchanged" && runs 3
 }
 
 # Without rt: what is current still runs, what is to be built does not.
@@ -190,7 +190,7 @@ tracetext_builds() {
 
 tracetext_fails() {
     local log=tools/tracetext/target/tracetext.log
-    touch "$work/fail" "$repository/tools/tracetext/Cargo.toml" && call 2 "$repository/bin/tracetext" decode </dev/null
+    fresh && touch "$work/fail" "$repository/tools/tracetext/Cargo.toml" && call 2 "$repository/bin/tracetext" decode </dev/null
     rm "$work/fail"
     sed -i 1d "$errors" && said "error: no such word
 tracetext: the build of tools/tracetext/target/release/tracetext failed, so it is not run: $repository/$log has all that cargo said

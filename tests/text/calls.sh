@@ -100,7 +100,10 @@ mmureport: sub: this is a folder, not a trace
 mmureport: none: there is no file of this name
 mmureport: -c: $cut_sentence
 mmureport: ../cut.trace: $cut_sentence
-" && here 7 mmureport ./--help </dev/null && printed $'arguments: <./--help>\n'
+" && here 7 mmureport ./--help </dev/null && printed $'arguments: <./--help>\n' &&
+        rm "$folder/-" && here 7 mmureport - -c whole.trace </dev/null && said "mmureport: -: there is no file of this name
+mmureport: -c: $cut_sentence
+"
 }
 
 # Where all is well, the number of processes does not grow with the number of names.

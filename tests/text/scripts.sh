@@ -111,11 +111,11 @@ chmod +x "$work/program" "$work/path/rt" "$work/path/cargo"
 out=$work/out
 errors=$work/errors
 
-# call STATUS COMMAND..: the command, with standard input as it is, ends with this status.
+# call STATUS COMMAND..: the command, with standard input as it is, ends with this status, and in time.
 call() {
     local expected=$1 status
     shift
-    TMPDIR=$work/temporary PATH=$work/path:$PATH "$@" >"$out" 2>"$errors"
+    TMPDIR=$work/temporary PATH=$work/path:$PATH timeout 30 "$@" >"$out" 2>"$errors"
     status=$?
     if [ "$status" -ne "$expected" ]; then
         echo "status $status of: $*"
