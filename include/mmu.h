@@ -173,8 +173,8 @@ static inline bool mmu_excepted(uint64_t answer)
 
 /* The value of the exception or fault, which is 0 where several entries hit and where there was none.
  *
- * An exception of value 0 usually means a buffer that was never started. After mmu_start, while the calls alone write registers, buffer
- * and tables, no two entries hit under any identification from 0 to 62. */
+ * An exception of value 0 usually means a buffer that was never started. After mmu_start, while start, served accesses, stores and settings
+ * alone write registers, buffer and tables, no two entries hit under any identification from 0 to 62. */
 static inline uint32_t mmu_value(uint64_t answer)
 {
     return (uint32_t)(answer >> MMU_VALUE_BIT & 0xFFFFu);

@@ -36,7 +36,7 @@ const BIT_54: u64 = 1 << 54;
 
 const BIT_56: u64 = 1 << 56;
 
-// How many bytes the registers have, the buffer, and the shortest and the longest tables.
+// How many bytes the registers have, the buffer, and the shortest and the longest tables; the shortest is also their step.
 const REGISTER_BYTES: usize = 44;
 
 const BUFFER_BYTES: usize = 512;

@@ -34,8 +34,12 @@ const TABLE: u32 = page_table::TABLE as u32;
 
 const NUMBER_1: u32 = page_table::PRESENT + 1;
 
-// A leaf that may be read and written; with the frame of page 0.
-const LEAF: u32 = page_table::PRESENT + page_table::VALID + page_table::WE;
+// Valid and write enable of a leaf; a leaf that has both; and with the frame of page 0.
+const VALID: u32 = 1 << 30;
+
+const WE: u32 = 1 << 28;
+
+const LEAF: u32 = page_table::PRESENT + VALID + WE;
 
 const FIRST_LEAF: u32 = LEAF + 256;
 

@@ -19,12 +19,8 @@ pub const DIRECTORY: usize = 512;
 
 const LONGEST: usize = 1 << 26;
 
-// The highest bits of a table word: present, and in a leaf valid and write enable.
+// The highest bit of a table word: it is present.
 pub const PRESENT: u32 = 1 << 31;
-
-pub const VALID: u32 = 1 << 30;
-
-pub const WE: u32 = 1 << 28;
 
 // A leaf: whether it stands in the global tree, its word, and the word's index in the run.
 pub struct Found {
@@ -204,7 +200,7 @@ fn walk_tree(words: &[u32], vpn: u32, global: bool, root: u32) -> Walk
 }
 
 // The root of the global tree.
-const GLOBAL_ROOT: u32 = 63;
+pub const GLOBAL_ROOT: u32 = 63;
 
 // The walk of a page under an identification: the global tree first, and the own tree where that has nothing.
 pub fn walk_page(words: &[u32], id: u32, vpn: u32) -> Walk

@@ -6,6 +6,7 @@ use mathlib.Core.List.{List}
 use lib.ListN.{length, getD}
 use lib.Dec.{eqb}
 use Rattle.runs.specs.Counts.{any, count}
+use Rattle.entry.specs.Address.{PAGES}
 use Rattle.page_table.specs.Words.{present}
 use Rattle.page_table.specs.Walk.{walkTree}
 use Rattle.page_table.specs.declared.Walk.{Walk}
@@ -21,7 +22,7 @@ endsAt (Broken s) index = false
 -- "A present word counts if the walk of some page from a root 0 to 63 ends at it as its leaf." That is the walk of one tree, whose leaf is
 -- always a present word. There are 524,288 pages.
 unfoldable pub isLeafWord : (words : List ℕ) (index : ℕ) → Bool
-isLeafWord words index = any (λ root. any (λ vpn. endsAt (walkTree words vpn false root) index) 524288) 64
+isLeafWord words index = any (λ root. any (λ vpn. endsAt (walkTree words vpn false root) index) PAGES) 64
 
 -- how many leaf words the tables have
 unfoldable pub leafCount : (words : List ℕ) → ℕ

@@ -3,7 +3,7 @@ use Prim.Native.Nat.{ℕ, _≤_, _<_}
 use mathlib.Core.Path.{_≡_}
 use mathlib.Core.Bool.{cond}
 use lib.Dec.{leb}
-use Rattle.entry.specs.Address.{vpn15Of, vpnAt}
+use Rattle.entry.specs.Address.{PAGES, vpn15Of, vpnAt}
 use Rattle.entry.specs.declared.Entry.{Entry}
 use Rattle.store.specs.Sweep.{isEmpty}
 use Rattle.store.specs.declared.Claim.{Claim}
@@ -23,4 +23,4 @@ pub record PageOf (f : Entry) (page : Page) : Type 0 where
   pub id-is : page .id ≡ f .«page_id»
   pub id-known : page .id ≤ 62
   pub vpn15-is : f .vpn15 ≡ vpn15Of (page .vpn)
-  pub vpn-fits : page .vpn < 524288
+  pub vpn-fits : page .vpn < PAGES

@@ -68,7 +68,7 @@ pub fn walk_page(tables: &[u8], id: u32, vpn: u32) -> Walk
     requires { ⌜ (id ≤ 63) × (vpn < PAGES) × (4 * ROOTS ≤ length (now tables)) ⌝ }
     ensures { λ r. ⌜ r ≡ walkPage (wordsOf (now (tables .entry))) id vpn ⌝ }
 {
-    let first = walk_tree(tables, vpn, true, 63);
+    let first = walk_tree(tables, vpn, true, page_table::GLOBAL_ROOT);
     let Walk::Absent(_) = first else {
         return first;
     };

@@ -23,10 +23,11 @@ unfoldable pub machineAfter : Machine → List Command → Machine
 machineAfter m [] = m
 machineAfter m (c ∷ cs) = machineAfter (machineAfterStep m c) cs
 
--- the start state; "Table memory is 16,384 words, all zero at first"
+-- "Table memory is 16,384 words, all zero at first"
 abbrev pub WORDS : ℕ
 WORDS = 16384
 
+-- the start state
 unfoldable pub startMachine : Buffer → Machine
 startMachine lent = record { registers = zeroRegisters; buffer = startBuffer lent; words = replicate WORDS 0 }
 
