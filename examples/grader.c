@@ -3,7 +3,7 @@
  *
  * Build, from the root of the repository:
  *   rt staticlib mmu_c
- *   gcc -std=c11 -O2 -I include examples/grader.c target/staticlib/libmmu_c.a -o grader
+ *   gcc -std=c11 -O2 -I include examples/grader.c target/staticlib/libmmu_c.a -o target/grader
  * It prints what it saw, one line a step: examples/grader.lines. */
 
 #include <inttypes.h>

@@ -98,7 +98,7 @@ uint64_t mmu_table_store(const uint8_t *registers, size_t registers_len,
 #define MMU_WRITE_ERROR 1u      /* The page may not be written. */
 #define MMU_ACCESS_VIOLATION 2u /* The page is the kernel's. */
 #define MMU_INVALID_PAGE 4u     /* The page is not valid. */
-#define MMU_MISS 8u             /* No entry hit. */
+#define MMU_MISS 8u             /* Raw: no entry hit. Served: the page's leaf has valid 0, and inv_exc is off. */
 #define MMU_ABSENT 16u          /* The walk ended at a word that is not present. */
 #define MMU_BROKEN 32u          /* The walk ended at a present word that is no good root or directory word. */
 
