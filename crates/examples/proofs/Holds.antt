@@ -57,7 +57,7 @@ use Rattle.line.specs.Text.{ascii, digit, digits, lengthWithin, decimalLength, 
 use Rattle.line.specs.Lines.{wordOf, headOf, lineOf}
 use Rattle.line.specs.Lines.{valueOf as lineValue}
 use Rattle.trace.specs.Traces.{linesOf as traceLines, startMachine, traceText}
-use Rattle.rows.specs.Rows.{signed, totalText, totalsText, rowOf, refusedText, unreadText}
+use Rattle.rows.specs.Rows.{signed, totalText, totalsText, rowOf, rowsOf, reportOf, refusedText, unreadText}
 use Rattle.rows.specs.Rows.{rowHead}
 use Rattle.report.specs.Totals.{totalAt, booked, within, bookedWithin, bookedAll}
 use Rattle.report.specs.Gains.{gain, hasColumn, faultColumn, faultGains, accessGains, storeGains}
@@ -104,7 +104,7 @@ unfolding all count lowest vpnOf offsetOf location vpn15Of slotOf setOf unpack j
     encoded kindOf userOf writeOf drawOf indexOf valueOf isPlain wellFormed settingNumbers settingOf accessOf askedBy commandOf commandAt
     commandsFrom recordCount commandsOf stepReply bufferAfterStep wordsAfterStep machineAfterStep ascii digit digits lengthWithin
     decimalLength decimal hex wordOf headOf lineOf lineValue traceLines startMachine traceText workedInput workedText traces signed
-    totalText totalsText rowHead rowOf refusedText unreadText totalAt booked within bookedWithin bookedAll gain hasColumn faultColumn
+    totalText totalsText rowHead rowOf rowsOf reportOf refusedText unreadText totalAt booked within bookedWithin bookedAll gain hasColumn faultColumn
     faultGains accessGains storeGains reports withFlag refusedOr heldAt freeAt withHeld framesFit poolFits isFull lowestFree heldFrames
     holds poolWith newRefusal clearPool newReply fullRefusal takeRefusal takenPfn takenPool takeReply giveRefusal givenPool giveReply
     heldRefusal heldOutcome mapRefusal mappedWord mapPut mapAnswer bufferAfterMap wordsAfterMap poolLeft lastPool ifDone doneValue takenBy

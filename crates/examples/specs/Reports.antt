@@ -3,9 +3,10 @@ use Prim.Native.Nat.{ℕ}
 use mathlib.Core.Bool.{true, false}
 use mathlib.Core.List.{List, [], _∷_}
 use lib.IntN.{pos, negsuc}
+use lib.ListN.{length, replicate}
 use Rattle.registers.specs.declared.Outcome.the-variants.{At, Fault, Done, Refused}
 use Rattle.line.specs.Text.{ascii}
-use Rattle.rows.specs.Rows.{signed, rowOf, refusedText, unreadText}
+use Rattle.rows.specs.Rows.{signed, rowOf, reportOf, refusedText, unreadText}
 use Rattle.report.specs.Totals.{Booked, SERVED, LOADS, EMPTIED, CHANGE, within, bookedAll}
 use Rattle.report.specs.Gains.{gain, faultGains, accessGains, storeGains}
 use Rattle.examples.specs.Claims.{Example, _gives_}
@@ -43,6 +44,8 @@ reports =
     ∷ (signed (negsuc 4294967294) gives ascii "-4294967295")
     ∷ (rowOf 12 0 (pos 3 ∷ pos 1 ∷ pos 0 ∷ pos 0 ∷ pos 0 ∷ pos 0 ∷ pos 0 ∷ pos 0 ∷ pos 0 ∷ pos 0 ∷ pos 1 ∷ pos 0 ∷ pos 4 ∷ negsuc 2 ∷ [])
     gives ascii "12 0 3 1 0 0 0 0 0 0 0 0 1 0 4 -3\n")
+    -- a file has 63 lines: ten of 32 bytes where all is 0, and 53 with one digit more
+    ∷ (length (reportOf 0 (replicate 882 (pos 0))) gives 2069)
     ∷ (refusedText 7 gives ascii "7 refused 9\n")
     ∷ (unreadText 0 gives ascii "0 unread\n")
     ∷ []
