@@ -68,10 +68,17 @@ static const struct {
     uint32_t at;
     unsigned width;
 } places[REGISTERS] = {
-    {"KSEG", MMU_AT_KSEG, 16},         {"CTRL", MMU_AT_CTRL, 3},       {"ENABLE", MMU_AT_ENABLE, 1},
-    {"KBASE_LO", MMU_AT_KBASE_LO, 32}, {"KBASE_HI", MMU_AT_KBASE_HI, 32}, {"CONTEXT", MMU_AT_CONTEXT, 6},
-    {"SELECT", MMU_AT_SELECT, 6},      {"TLB_HI", MMU_AT_TLB_HI, 25},  {"TLB_LO", MMU_AT_TLB_LO, 23},
-    {"test mode", MMU_AT_TEST, 1},     {"the cause", MMU_AT_CAUSE, 5},
+    {"KSEG", MMU_AT_KSEG, 16},
+    {"CTRL", MMU_AT_CTRL, 3},
+    {"ENABLE", MMU_AT_ENABLE, 1},
+    {"KBASE_LO", MMU_AT_KBASE_LO, 32},
+    {"KBASE_HI", MMU_AT_KBASE_HI, 32},
+    {"CONTEXT", MMU_AT_CONTEXT, 6},
+    {"SELECT", MMU_AT_SELECT, 6},
+    {"TLB_HI", MMU_AT_TLB_HI, 25},
+    {"TLB_LO", MMU_AT_TLB_LO, 23},
+    {"test mode", MMU_AT_TEST, 1},
+    {"the cause", MMU_AT_CAUSE, 5},
 };
 
 static const uint32_t numbers[SETTINGS] = {MMU_KSEG, MMU_CTRL, MMU_ENABLE, MMU_KBASE_LO, MMU_KBASE_HI, MMU_CONTEXT};
@@ -442,10 +449,12 @@ static void try_refusals(void)
     try_wrong_arguments();
 }
 
-/* Every length up to one that is too long, and the named ones are taken. */
+/* The named lengths are taken, and of all lengths up to one that is too long no other is. */
 static void try_lengths(void)
 {
     start();
+    expect("a store's refusal by the least length", mmu_refusal(store_with(R, B, MMU_TABLE_BYTES_MIN, 0)), 0);
+    expect("a store's refusal by the greatest length", mmu_refusal(store_with(R, B, MMU_TABLE_BYTES_MAX, 0)), 0);
     for (size_t length = 0; length <= R + 1; length++)
         expect("a start's refusal by the registers' length", mmu_refusal(mmu_start(registers, length, buffer, B)),
                length == MMU_REGISTER_BYTES ? 0 : 1);
