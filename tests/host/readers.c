@@ -1,43 +1,34 @@
-/* Tries what include/mmu.h reads and names beside the answers: numbers, entries, slots, the places of a page, refusals. They are held
- * against bytes that are set bit by bit as document 01 numbers the bits, and against what the calls leave and answer.
+/* Tries how include/mmu.h reads the runs: words, numbers, entries, slots, the places of a page. It is held against bytes that are set bit
+ * by bit as document 01 numbers the bits, and against what the calls leave and answer.
  * It prints what is wrong, and ends with 1 where anything is. */
 
-#include <inttypes.h>
-#include <stdio.h>
-#include <string.h>
+#include "trial.h"
 
-#include "mmu.h"
-
-enum { NUMBER_BYTES = 8, NUMBER_BITS = 64, IDENTIFICATIONS = 63, RANDOM_ENTRIES = 100000, RANDOM_LOADS = 4000, MOST_SHOWN = 20 };
-enum { VPN_BITS = 19, OFFSET_BITS = 13, DIRECTORIES = 32, TABLES = 16 };
-
-static uint8_t registers[MMU_REGISTER_BYTES];
-static uint8_t buffer[MMU_BUFFER_BYTES];
-static uint8_t tables[MMU_TABLE_BYTES_MAX];
-static unsigned wrong;
-
-static void expect(const char *what, uint64_t is, uint64_t should_be)
-{
-    if (is == should_be)
-        return;
-    if (wrong++ < MOST_SHOWN)
-        printf("%s is %" PRIX64 " and should be %" PRIX64 " (hex)\n", what, is, should_be);
-}
-
-/* So many random bits, the same in every run. */
-static uint64_t random_bits(unsigned count)
-{
-    static uint64_t state = 1;
-
-    state ^= state << 13;
-    state ^= state >> 7;
-    state ^= state << 17;
-    return state >> (NUMBER_BITS - count);
-}
+enum { WORD_BYTES = 4, RANDOM_WORDS = 1000, IDENTIFICATIONS = 63, RANDOM_ENTRIES = 100000, RANDOM_LOADS = 4000 };
+enum { VPN_BITS = 19, DIRECTORIES = 32, TABLES = 16 };
 
 static uint32_t random_below(uint32_t end)
 {
     return (uint32_t)(random_bits(32) % end);
+}
+
+/* A word is read from its bytes, most significant first, and written to just these bytes. */
+static void try_words(void)
+{
+    for (unsigned n = 0; n < RANDOM_WORDS; n++) {
+        uint8_t bytes[WORD_BYTES + 2], written[WORD_BYTES + 2];
+        uint32_t word = 0;
+
+        for (size_t byte = 0; byte < sizeof bytes; byte++)
+            bytes[byte] = written[byte] = (uint8_t)random_bits(8);
+        for (size_t byte = 1; byte <= WORD_BYTES; byte++) {
+            word = word * 256 + bytes[byte];
+            written[byte] = (uint8_t)~bytes[byte];
+        }
+        expect("a word", mmu_get_word(bytes + 1), word);
+        mmu_put_word(written + 1, word);
+        expect("whether a word is written well", memcmp(written, bytes, sizeof bytes) == 0, true);
+    }
 }
 
 /* Document 01: "Entry, most significant first: vpn15 in bits 43 to 29, page_id 28 to 23, global 22, valid 21, kernel 20, we 19, pfn 18 to
@@ -150,7 +141,7 @@ static void try_random_entries(void)
 /* A slot as the start leaves it is empty; with one of its 44 bits turned round it is not. What stands above them is ignored. */
 static void try_empty_slots(void)
 {
-    mmu_start(registers, sizeof registers, buffer, sizeof buffer);
+    start();
     expect("empty slot 16", mmu_get_number(buffer + 16 * NUMBER_BYTES), 1065353216);
     expect("empty slot 63", mmu_get_number(buffer + 63 * NUMBER_BYTES), 2139095040);
     for (uint32_t slot = 0; slot < MMU_SLOTS; slot++)
@@ -170,26 +161,18 @@ struct load {
     uint64_t fields[FIELDS];
 };
 
-static void set(uint32_t number, uint32_t value)
-{
-    expect("the refusal of a setting", mmu_guarded_setting(registers, sizeof registers, number, value), 0);
-}
-
 static uint64_t served(uint32_t address, uint32_t draw)
 {
-    return mmu_served_access(registers, sizeof registers, buffer, sizeof buffer, tables, sizeof tables, address, false, false, draw);
-}
-
-static uint64_t store(uint32_t index, uint32_t value)
-{
-    return mmu_table_store(registers, sizeof registers, buffer, sizeof buffer, tables, sizeof tables, index, value);
+    return mmu_served_access(registers, R, buffer, B, tables, T, address, false, false, draw);
 }
 
 /* A directory and a table that share no word. */
 static struct load random_load(void)
 {
-    struct load load = {.vpn = (uint32_t)random_bits(VPN_BITS), .offset = (uint32_t)random_bits(OFFSET_BITS)};
+    struct load load;
 
+    load.vpn = (uint32_t)random_bits(VPN_BITS);
+    load.offset = (uint32_t)random_bits(OFFSET_BITS);
     load.identification = random_below(IDENTIFICATIONS);
     load.directory = 2 + random_below(DIRECTORIES - 2);
     do
@@ -202,15 +185,6 @@ static struct load random_load(void)
     load.fields[PAGE_ID] = load.identification;
     load.root = load.fields[GLOBAL] != 0 ? MMU_GLOBAL_ROOT : load.identification;
     return load;
-}
-
-static void put_table_word(uint32_t index, uint32_t word)
-{
-    bool inside = index < sizeof tables / 4;
-
-    expect("whether an index is inside the tables", inside, true);
-    if (inside)
-        mmu_put_word(tables + 4 * index, word);
 }
 
 static void fill_tables(const struct load *load)
@@ -240,7 +214,7 @@ static void try_load(const struct load *load)
     uint32_t slot;
 
     fill_tables(load);
-    mmu_start(registers, sizeof registers, buffer, sizeof buffer);
+    start();
     set(MMU_CTRL, MMU_INV_EXC);
     set(MMU_ENABLE, 1);
     set(MMU_CONTEXT, load->identification);
@@ -274,78 +248,6 @@ static void try_loads(void)
     }
 }
 
-/* Each refusal by each call that gives it, as docs/C_INTERFACE.md's table has them. These are the right lengths. */
-
-enum { R = sizeof registers, B = sizeof buffer, T = sizeof tables };
-
-static uint64_t raw_with(size_t registers_len, size_t buffer_len, uint32_t draw)
-{
-    return mmu_raw_access(registers, registers_len, buffer, buffer_len, 0, false, false, draw);
-}
-
-static uint64_t served_with(size_t registers_len, size_t buffer_len, size_t tables_len, uint32_t draw)
-{
-    return mmu_served_access(registers, registers_len, buffer, buffer_len, tables, tables_len, 0, false, false, draw);
-}
-
-static uint64_t store_with(size_t registers_len, size_t buffer_len, size_t tables_len, uint32_t index)
-{
-    return mmu_table_store(registers, registers_len, buffer, buffer_len, tables, tables_len, index, 0);
-}
-
-static uint64_t set_with(size_t registers_len, uint32_t number, uint32_t value)
-{
-    return mmu_guarded_setting(registers, registers_len, number, value);
-}
-
-static void try_wrong_lengths(void)
-{
-    expect("1 of a start", mmu_refusal(mmu_start(registers, R - 1, buffer, B)), MMU_REFUSED_REGISTERS);
-    expect("1 of a setting", mmu_refusal(set_with(R - 1, MMU_ENABLE, 1)), MMU_REFUSED_REGISTERS);
-    expect("1 of a raw access", mmu_refusal(raw_with(R - 1, B, 0)), MMU_REFUSED_REGISTERS);
-    expect("1 of a served access", mmu_refusal(served_with(R - 1, B, T, 0)), MMU_REFUSED_REGISTERS);
-    expect("1 of a store", mmu_refusal(store_with(R - 1, B, T, 0)), MMU_REFUSED_REGISTERS);
-    expect("2 of a start", mmu_refusal(mmu_start(registers, R, buffer, B - 1)), MMU_REFUSED_BUFFER);
-    expect("2 of a raw access", mmu_refusal(raw_with(R, B - 1, 0)), MMU_REFUSED_BUFFER);
-    expect("2 of a served access", mmu_refusal(served_with(R, B - 1, T, 0)), MMU_REFUSED_BUFFER);
-    expect("2 of a store", mmu_refusal(store_with(R, B - 1, T, 0)), MMU_REFUSED_BUFFER);
-    expect("3 of a served access", mmu_refusal(served_with(R, B, T - 4, 0)), MMU_REFUSED_TABLES);
-    expect("3 of a store", mmu_refusal(store_with(R, B, T - 4, 0)), MMU_REFUSED_TABLES);
-}
-
-/* Registers with bits that they do not have; a start does not look at them. */
-static void try_wrong_registers(void)
-{
-    memset(registers, 0xFF, sizeof registers);
-    expect("1 of a setting by a register", mmu_refusal(set_with(R, MMU_ENABLE, 1)), MMU_REFUSED_REGISTERS);
-    expect("1 of a raw access by a register", mmu_refusal(raw_with(R, B, 0)), MMU_REFUSED_REGISTERS);
-    expect("1 of a served access by a register", mmu_refusal(served_with(R, B, T, 0)), MMU_REFUSED_REGISTERS);
-    expect("1 of a store by a register", mmu_refusal(store_with(R, B, T, 0)), MMU_REFUSED_REGISTERS);
-    expect("a start over such registers", mmu_start(registers, R, buffer, B), 0);
-}
-
-static void try_wrong_arguments(void)
-{
-    expect("4 of a raw access", mmu_refusal(raw_with(R, B, MMU_SETS)), MMU_REFUSED_DRAW);
-    expect("4 of a served access", mmu_refusal(served_with(R, B, T, MMU_SETS)), MMU_REFUSED_DRAW);
-    expect("5 of a setting", mmu_refusal(set_with(R, MMU_CONTEXT, MMU_EMPTY_PAGE_ID)), MMU_REFUSED_SERVICE);
-    expect("a setting of the last identification", set_with(R, MMU_CONTEXT, MMU_EMPTY_PAGE_ID - 1), 0);
-    mmu_put_word(registers + MMU_AT_TEST, 1);
-    expect("5 of a served access", mmu_refusal(served_with(R, B, T, 0)), MMU_REFUSED_SERVICE);
-    mmu_put_word(registers + MMU_AT_TEST, 0);
-    expect("6 of a store", mmu_refusal(store_with(R, B, T, T / 4)), MMU_REFUSED_INDEX);
-    expect("7 of a setting", mmu_refusal(set_with(R, MMU_CONTEXT + 1, 0)), MMU_REFUSED_SETTING);
-    expect("7 of a setting by its value", mmu_refusal(set_with(R, MMU_ENABLE, 2)), MMU_REFUSED_SETTING);
-}
-
-static void try_refusals(void)
-{
-    mmu_start(registers, R, buffer, B);
-    try_wrong_lengths();
-    try_wrong_registers();
-    try_wrong_arguments();
-}
-
 /* A buffer of zeros that was never started. An access has an exception of value 0 just where docs/C_INTERFACE.md says so, and else the
  * answer that a started buffer gives. */
 
@@ -363,7 +265,7 @@ static void make(const struct settings *settings)
 
 static uint64_t raw(uint32_t address)
 {
-    return mmu_raw_access(registers, sizeof registers, buffer, sizeof buffer, address, false, false, 0);
+    return mmu_raw_access(registers, R, buffer, B, address, false, false, 0);
 }
 
 static void expect_unstarted(const char *what, uint64_t answer, uint64_t started, bool of_value_0)
@@ -380,7 +282,7 @@ static void try_unstarted(const struct settings *settings, uint32_t vpn)
     uint32_t address = vpn << OFFSET_BITS;
     uint64_t started_raw, started_served;
 
-    mmu_start(registers, sizeof registers, buffer, sizeof buffer);
+    start();
     make(settings);
     started_raw = raw(address);
     started_served = served(address, 0);
@@ -411,13 +313,11 @@ static void try_all_unstarted(void)
 
 int main(void)
 {
+    try_words();
     try_edges();
     try_random_entries();
     try_empty_slots();
     try_loads();
-    try_refusals();
     try_all_unstarted();
-    if (wrong != 0)
-        printf("%u wrong\n", wrong);
-    return wrong != 0;
+    return verdict();
 }
