@@ -101,12 +101,12 @@ unreadable() {
     fi
 }
 
-# Refuses where standard input is closed. WHAT is what a file would have: needs_input WHAT.
+# needs_input WHAT: refuses where standard input is closed, and asks for a file of this kind.
 needs_input() {
     { true 9<&0; } 2>/dev/null || refuse "standard input is closed: give the name of a $1 file"
 }
 
-# greet WHAT CALL: says what is read where standard input is a terminal, and the call that reads a file.
+# greet WHAT CALL: where standard input is a terminal, says what is read from there, and which call reads a file.
 greet() {
     [ ! -t 0 ] || say "$1 read from this terminal, up to Ctrl-D. For those of a file: $2 FILE"
 }

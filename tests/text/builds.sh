@@ -238,8 +238,13 @@ unwritable() {
 # Standard error whose reader is gone, or that is closed: it is built and run.
 unheard() {
     fresh && { sleep 0.1 && started "$repository/bin/mmutrace" "$work/cut.trace" 2>&1 >"$out"; } | true
-    [ "${PIPESTATUS[0]}" -eq 7 ] && cmp -s <(tail -n +2 "$out") "$work/cut.trace" && [ "$(builds)" -eq 1 ] && fresh || return 1
-    started "$repository/bin/mmutrace" "$work/whole.trace" >"$out" 2>&-
+    [ "${PIPESTATUS[0]}" -eq 7 ] && cmp -s <(tail -n +2 "$out") "$work/cut.trace" && [ "$(builds)" -eq 1 ] && unheard_by
+}
+
+# unheard_by [SHELL]: a call with a closed standard error.
+unheard_by() {
+    fresh
+    started "$@" "$repository/bin/mmutrace" "$work/whole.trace" >"$out" 2>&-
     [ $? -eq 7 ] && printed $'arguments:\n'"$whole" && [ "$(builds)" -eq 1 ]
 }
 
@@ -288,8 +293,9 @@ mmutrace: $sentence
 
 # cargo goes by times of modification, and still compiles a source that was copied in with an older one.
 tracetext_older_source() {
-    fresh && call 7 "$repository/bin/tracetext" decode </dev/null && older "$repository/tools/tracetext/src/usage.txt" &&
-        call 7 "$repository/bin/tracetext" decode </dev/null && grep -q Compiling "$repository/tools/tracetext/target/tracetext.log" &&
+    local log=$repository/tools/tracetext/target/tracetext.log
+    fresh && call 7 "$repository/bin/tracetext" decode </dev/null && older "$repository/tools/tracetext/src/usage.txt" && rm -f "$log" &&
+        call 7 "$repository/bin/tracetext" decode </dev/null && grep -q Compiling "$log" &&
         call 7 "$repository/bin/tracetext" decode </dev/null && said ''
 }
 
@@ -308,7 +314,8 @@ under() {
     shell=$(command -v "$1") && mkdir -p "$work/$1" && ln -sf "$shell" "$work/$1/sh" && cp "$work/path/rt" "$work/$1" || return 1
     (PATH=$work/$1:$PATH && interrupt INT SIGINT sh && fresh && call 7 sh "$repository/bin/mmutrace" "$work/whole.trace" &&
         cmp -s <(tail -n +2 "$out") "$work/whole.trace" && grep -qx 'mmutrace: 4/4 mmutrace' "$errors" &&
-        call 2 sh "$repository/bin/mmutrace" <&- && call 2 sh "$repository/bin/mmutrace" none)
+        call 2 sh "$repository/bin/mmutrace" <&- && call 2 sh "$repository/bin/mmutrace" none && unheard_by sh &&
+        call 7 sh "$repository/bin/mmureport" "$work/program" - </dev/null && [ "$(grep -c -e 'it looks like a text' -e ': it cannot be' "$errors")" -eq 2 ])
 }
 
 verdict "bin/mmutrace builds at the first call, and shows each crate" first_call
