@@ -174,7 +174,9 @@ mmureport: -: $looks_sentence
 mmureport: -c: $cut_sentence
 mmureport: sub: this is a folder, not a trace
 mmureport: e: $looks_sentence
-" && read -r -t 1 -u "$held" long && [ "$long" = held ] && exec {held}>&-
+" && read -r -t 1 -u "$held" long && [ "$long" = held ] && exec {held}>&- &&
+        here 7 mmureport /dev/stdin e <"$work/whole.trace" && said "mmureport: e: $looks_sentence
+"
 }
 
 # Of many files that are no traces ten are named, and the others counted.
