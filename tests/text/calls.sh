@@ -175,7 +175,7 @@ mmureport: -c: $cut_sentence
 mmureport: sub: this is a folder, not a trace
 mmureport: e: $looks_sentence
 " && read -r -t 1 -u "$held" long && [ "$long" = held ] && exec {held}>&- &&
-        here 7 mmureport /dev/stdin e <"$work/whole.trace" && said "mmureport: e: $looks_sentence
+        here 7 mmureport /dev/stdin ../cut.trace whole.trace <"$work/whole.trace" && said "mmureport: ../cut.trace: $cut_sentence
 "
 }
 
