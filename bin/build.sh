@@ -15,7 +15,7 @@ lock() {
     if ! command -v flock >/dev/null; then
         say "flock is not on the path, so start no other call before this build has ended"
     elif ! flock -n 9; then
-        say "waiting for another call's build"
+        say "waiting for another call's build, whose log is in $root/$target"
         flock 9 &
         wait "$!" || say "the lock failed, so start no other call before this build has ended"
     fi
@@ -47,9 +47,16 @@ build() {
 begin() {
     building=yes
     tidy
-    touch "$mark" && room=$(mktemp -d) && chmod 711 "$room" || return 1
-    TMPDIR=$room
-    export TMPDIR
+    if ! touch "$mark"; then
+        say "$program is to be built, but no file can be made in $root/$target"
+    elif ! { room=$(mktemp -d) && chmod 711 "$room"; } 2>/dev/null; then
+        say "$program is to be built, but no temporary folder can be made in ${TMPDIR:-/tmp}"
+    else
+        TMPDIR=$room
+        export TMPDIR
+        return 0
+    fi
+    return 1
 }
 
 # Removes libraries that rt began and did not finish, as it has no stamp for them: it would stumble over half a one.
@@ -65,9 +72,15 @@ by_rt() {
     rt check "$name"
 }
 
-# A server that cargo may start must not keep the lock.
+# cargo goes by times of modification alone, so it is made to compile all of the package. A server that it may start
+# must not keep the lock.
 by_cargo() {
-    (cd "$package" && cargo build --release --offline --locked --target-dir target) 9>&-
+    (cd "$package" && cargo_on clean --package "$name" && cargo_on build) 9>&-
+}
+
+# cargo_on COMMAND ARGUMENT..: cargo, on what is built in target/.
+cargo_on() {
+    cargo "$@" --release --offline --locked --target-dir target
 }
 
 # Says what is built and how long it takes.
@@ -135,17 +148,21 @@ clear_up() {
 # Shows what failed, and names the log, which has all that the tool said.
 show_failure() {
     lines=$(failures | head -n 10)
-    printf '%s\n' "${lines:-$(tail -n 1 "$log")}" >&2
+    tell "${lines:-$(tail -n 1 "$log")}"
     say "the build of $program failed, so it is not run: $root/$log has all that $tool said"
 }
 
-# The lines of the log that say what failed: not those about crates that only stand on one that failed.
+# The lines of the log that say what failed, the causes first: not those about crates that only stand on one that
+# failed.
 failures() {
-    if [ "$tool" = rt ]; then
-        grep -e ': not proved$' -e '^rt: ' "$log" | grep -v -e ' proved (' -e '^rt: FAILED:' -e ': its dependency '
-    else
-        grep '^error' "$log"
-    fi
+    causes <"$log"
+    causes -v <"$log" | grep -e ': not proved$' -e '^rt: ' |
+        grep -v -e ' proved (' -e '^rt: FAILED:' -e ': its dependency '
+}
+
+# causes [-v]: of the lines on standard input those that name a cause, or the others.
+causes() {
+    grep -E "$@" -e '(^|[[:space:]])error(:|\[)' -e '^rattle: ' -e '[Nn]o space left'
 }
 
 # Ends the build, all that it started, and what it left.
@@ -161,9 +178,23 @@ stop() {
     exit 2
 }
 
-command -v "$tool" >/dev/null || refuse "$program is to be built, but $tool is not on the path"
+# cannot REASON [ADVICE]: nothing can be built. The program is run all the same where no source is newer, as in a copy
+# of a repository that was built before.
+cannot() {
+    dated || refuse "$program is to be built, but $1${2-}"
+    say "$program is run as it is: sources were copied or changed since it was built, none is newer, and $1"
+    exit 0
+}
+
 cd "$root" || exit 2
+for source in $sources; do
+    [ -e "$source" ] || refuse "$program is to be built, but there is no $root/$source: call a script of a whole repository, or a link to it"
+done
+command -v "$tool" >/dev/null || cannot "$tool is not on the path"
+if [ ! -d "$target" ] && { [ -e "$target" ] || [ -h "$target" ]; }; then
+    refuse "$program is to be built, but $root/$target is no folder: remove it, and call again"
+fi
 { mkdir -p "$target" && [ -w "$target" ] && true 9<>"$lock_file"; } 2>/dev/null ||
-    refuse "$program is to be built, but $root/$target cannot be written: take a copy of the repository that you may write"
+    cannot "$root/$target cannot be written" ": take a copy of the repository that you may write"
 trap stop TERM
 { lock && build; } 9<>"$lock_file" || exit 2

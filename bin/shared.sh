@@ -1,10 +1,13 @@
 # shellcheck shell=sh disable=SC2034,SC2154
 # Shared by the scripts of this folder, each of which runs a program of the repository and has it built first where
 # needed. A script sets `bin` to this folder, calls describe, looks at its arguments, calls ready and runs the program.
-# What a script says goes to standard error, and status 2 says that it refused.
+# What a script says goes to standard error, and status 2 says that it refused. Closed, standard error is /dev/null.
+true 9>&2 || exec 2>/dev/null
 root=$(dirname "$bin")
 RECORD_BYTES=8
 FOLDER="this is a folder, not a trace"
+# So many bytes of a file are looked at.
+FIRST_BYTES=64
 
 # describe NAME: sets what is known of a program. Paths are from the root. Programs that are built in one target/ have
 # one lock: a file that is always there, and that goes neither with target/ nor with an edit of the sources.
@@ -27,7 +30,12 @@ describe() {
 
 # say WORD..: a sentence to the user. Names may have any character, so those that disturb a terminal are replaced.
 say() {
-    printf '%s: %s\n' "$name" "$(printf '%s' "$*" | LC_ALL=C tr '[:cntrl:]' '?')" >&2
+    tell "$name: $(printf '%s' "$*" | LC_ALL=C tr '[:cntrl:]' '?')"
+}
+
+# tell LINES: writes them to standard error. cat does it, so that a reader that is gone ends cat, and not the script.
+tell() {
+    printf '%s\n' "$1" | cat >&2 || :
 }
 
 refuse() {
@@ -35,11 +43,22 @@ refuse() {
     exit 2
 }
 
-# Is the program there, its build whole, and no source newer? A folder is newer where a file was removed from it.
-current() (
+# Is the program there, its build whole, and no source changed since? A source that was copied in with an older time
+# of its own shows by its change time alone.
+current() {
+    no_source -newer "$program" -o -cnewer "$program"
+}
+
+# Is the program there and whole, and no source newer? A copy of the repository may leave nothing else to go by.
+dated() {
+    no_source -newer "$program"
+}
+
+# no_source TEST..: is the program there, its build whole, and does no source pass the test of find? A folder is newer
+# where a file was removed from it. What find stumbles over counts as a source that does.
+no_source() (
     # shellcheck disable=SC2086 # sources are words
-    cd "$root" && [ -x "$program" ] && [ ! -e "$mark" ] &&
-        [ -z "$(find $sources -newer "$program" -print | head -n 1)" ]
+    cd "$root" && [ -x "$program" ] && [ ! -e "$mark" ] && [ -z "$(find $sources \( "$@" \) -print 2>&1 | head -n 1)" ]
 )
 
 # Has the program built where it is not current. The build leads a process group of its own where setsid is there,
@@ -74,7 +93,7 @@ unreadable() {
     if [ -d "$1" ]; then
         why=$FOLDER
     elif [ ! -e "$1" ]; then
-        why="there is no file of this name"
+        why="it cannot be found: there is no such file, or a folder on its way may not be searched"
     elif [ ! -r "$1" ]; then
         why="you may not read this file"
     else
@@ -82,16 +101,29 @@ unreadable() {
     fi
 }
 
-# say_cut SHOWN FILE BYTES: says so where a trace file of so many bytes ends with a cut record.
-say_cut() {
-    if [ $(($3 % RECORD_BYTES)) -ne 0 ]; then
-        hint=
-        ! is_text "$2" || hint="; it looks like a text, of which tracetext encode makes a trace"
-        say "$1: $3 bytes are no multiple of $RECORD_BYTES, so it ends with a cut record$hint"
-    fi
+# needs_input WHAT: refuses where standard input is closed, and asks for a file of this kind.
+needs_input() {
+    { true 9<&0; } 2>/dev/null || refuse "standard input is closed: give the name of a $1 file"
 }
 
-# Does a file begin without a control character other than a tab or the end of a line? Records nearly always have one.
-is_text() {
-    [ "$(head -c 64 -- "$1" 2>/dev/null | LC_ALL=C tr -d '\11\12\15\40-\176\200-\377' | wc -c)" -eq 0 ]
+# greet WHAT CALL: where standard input is a terminal, says what is read from there, and which call reads a file.
+greet() {
+    [ ! -t 0 ] || say "$1 read from this terminal, up to Ctrl-D. For those of a file: $2 FILE"
+}
+
+# Turns each byte into a letter: c for a control character that no text has, else t. Every well-formed record has a c.
+letters() {
+    LC_ALL=C tr -c '\0-\10\13\14\16-\37\177' t | LC_ALL=C tr -c t c
+}
+
+# doubted BYTES LETTERS: sets `why` to what speaks against a trace of so many bytes that begins with these letters.
+doubted() {
+    why=
+    [ $(($1 % RECORD_BYTES)) -eq 0 ] ||
+        why="$1 bytes are no multiple of $RECORD_BYTES, so it ends with a cut record"
+    case $2 in
+        '' | *c*) ;;
+        *) why="${why:+$why; }it looks like a text, of which tracetext encode makes a trace" ;;
+    esac
+    [ -n "$why" ]
 }

@@ -51,6 +51,16 @@ same_source() {
     fresh && runs 1 && touch "$work/unchanged" "$repository/crates/low/file" && runs 2 && runs 2
 }
 
+# older FILE..: the files as others with a time of long ago, as cp -a and tar leave them.
+older() {
+    touch -t 200101010000 "$@"
+}
+
+# A source that was copied in with an older time: rt is asked once too.
+older_source() {
+    fresh && runs 1 && older "$repository/crates/low/file" && runs 2 && runs 2
+}
+
 # A source that changes during a build is newer than the program.
 source_changed_meanwhile() {
     fresh && touch "$work/edit" && runs 1 && rm "$work/edit" && runs 2 && runs 2
@@ -90,7 +100,7 @@ without_flock() {
         mv "$work/setsid" "$work/no tools" && rm "$work/no tools/rt" "$work/no tools/cargo"
 }
 
-waits=": waiting for another call's build\$"
+waits="mmu[a-z]*: waiting for another call's build, whose log is in $repository/target"
 
 # await COMMAND..: waits until the command succeeds, for some seconds at most.
 await() {
@@ -126,7 +136,7 @@ together() {
 
 # others_wait CALLS: all calls but one have said that they wait.
 others_wait() {
-    [ "$(cat "$work/together"/errors.* 2>/dev/null | grep -c "$waits")" -eq $(($1 - 1)) ]
+    [ "$(cat "$work/together"/errors.* 2>/dev/null | grep -cx "$waits")" -eq $(($1 - 1)) ]
 }
 
 # interrupt HOW ENDING [SHELL]: a build that is interrupted ends, with all that it started, and leaves no file: no half
@@ -157,18 +167,92 @@ waiting_interrupted() {
     other=$!
     await [ -e "$work/begun" ]
     rm "$work/long"
-    (await grep -qs "$waits" "$errors" && touch "$work/waits") &
+    (await grep -qsx "$waits" "$errors" && touch "$work/waits") &
     call 0 python3 tests/text/terminal.py interrupt TERM "$work/waits" "$repository/bin/mmureport" "$work/whole.trace"
     # Without its sleep the other call's rt goes on.
     kill "$(cut -d ' ' -f 2 "$work/begun")"
     wait "$other" && printed $'SIGTERM\n' && runs 1
 }
 
-# Where target/ cannot be made there is one sentence.
+# cannot_build SENTENCE [COMMAND..]: a call that says only why nothing can be built.
+cannot_build() {
+    local sentence=$1
+    shift
+    call 2 "$@" "$repository/bin/mmutrace" </dev/null && printed '' &&
+        said "mmutrace: target/bin/mmutrace is to be built, but $sentence
+"
+}
+
+# Where target/ or a temporary folder cannot be made there is one sentence.
+unmade_folders() {
+    local sentence="$repository/target is no folder: remove it, and call again"
+    fresh && touch "$repository/target" && cannot_build "$sentence" &&
+        fresh && ln -s nowhere "$repository/target" && cannot_build "$sentence" &&
+        fresh && cannot_build "no temporary folder can be made in $work/missing" env TMPDIR="$work/missing" && runs 1
+}
+
+# A copy of bin/ alone has nothing to build, nor has a repository that lost its sources.
+without_sources() {
+    local script missing
+    rm -rf "$work/alone" && mkdir "$work/alone" && cp -R bin "$work/alone" || return 1
+    for script in mmutrace mmureport tracetext; do
+        missing=crates
+        [ "$script" != tracetext ] || missing=tools/tracetext/Cargo.toml
+        call 2 "$work/alone/bin/$script" "$work/whole.trace" </dev/null && printed '' && grep -qxF "\
+$script: $(built_as $script) is to be built, but there is no $work/alone/$missing: call a script of a whole repository, or a link to it" "$errors" &&
+            [ "$(wc -l <"$errors")" -eq 1 ] || return 1
+    done
+    fresh && built && mv "$repository/crates" "$work/alone" && call 2 "$repository/bin/mmutrace" </dev/null
+    mv "$work/alone/crates" "$repository" && grep -q "there is no $repository/crates: " "$errors"
+}
+
+# built_as SCRIPT: the path of its program.
+built_as() {
+    if [ "$1" = tracetext ]; then echo tools/tracetext/target/release/tracetext; else echo "target/bin/$1"; fi
+}
+
+# as_it_is REASON: what is said where a program is run although sources were copied since.
+as_it_is() {
+    said "mmutrace: target/bin/mmutrace is run as it is: sources were copied or changed since it was built, none is newer, and $1
+"
+}
+
+# A program that was built before is run where nothing can be built and no source is newer, but not without a word.
+copied_without_rt() {
+    fresh && built && older "$repository/crates.txt" && bare 7 "$repository/bin/mmutrace" </dev/null &&
+        as_it_is 'rt is not on the path' && runs 3
+}
+
+# by_nobody STATUS: a call by a user who may not write the repository.
+by_nobody() {
+    call "$1" setpriv --reuid=65534 --regid=65534 --clear-groups "$repository/bin/mmutrace" </dev/null
+}
+
 unwritable() {
-    fresh && touch "$repository/target" && call 2 "$repository/bin/mmutrace" </dev/null && printed '' &&
+    chmod 711 "$work" && fresh && built && by_nobody 7 && said '' && older "$repository/crates.txt" && by_nobody 7 &&
+        as_it_is "$repository/target cannot be written" && touch "$repository/crates.txt" && by_nobody 2 &&
         said "mmutrace: target/bin/mmutrace is to be built, but $repository/target cannot be written: take a copy of the repository that you may write
 "
+}
+
+# Standard error whose reader is gone, or that is closed: it is built and run.
+unheard() {
+    fresh && { sleep 0.1 && started "$repository/bin/mmutrace" "$work/cut.trace" 2>&1 >"$out"; } | true
+    [ "${PIPESTATUS[0]}" -eq 7 ] && cmp -s <(tail -n +2 "$out") "$work/cut.trace" && [ "$(builds)" -eq 1 ] && unheard_by
+}
+
+# unheard_by [SHELL]: a call with a closed standard error.
+unheard_by() {
+    fresh
+    started "$@" "$repository/bin/mmutrace" "$work/whole.trace" >"$out" 2>&-
+    [ $? -eq 7 ] && printed $'arguments:\n'"$whole" && [ "$(builds)" -eq 1 ]
+}
+
+# After a build a program whose reader is gone ends by the signal, as without one.
+reader_gone() {
+    fresh
+    yes | started "$repository/bin/mmutrace" 2>"$errors" | head -n 1 >"$work/first"
+    [ "$(builds)" -eq 1 ] && [ "$(cat "$work/first")" = arguments: ] && ! grep -i pipe "$errors"
 }
 
 listed() {
@@ -188,6 +272,33 @@ tracetext_builds() {
         call 7 "$repository/bin/tracetext" decode </dev/null && said ''
 }
 
+# What failed may have a cause that is no proof: it comes first, and there are ten lines at most.
+causes_of_failure() {
+    local sentence="the build of target/bin/mmutrace failed, so it is not run: $repository/target/mmutrace.log has all that rt said"
+    fresh && printf '%s\n' 'fn side::error: proved' 'side.rt:3:7: error: no such name' 'no error was found: none' \
+        'error[E1]: no such type' 'rattle: no library' "cp: error writing 'a': No space left on device" >"$work/fail" &&
+        fails "$sentence" && sed -i 1,5d "$errors" && said "\
+side.rt:3:7: error: no such name
+error[E1]: no such type
+rattle: no library
+cp: error writing 'a': No space left on device
+fn side::call: not proved
+rt: side NOT PROVED (exit 1, 1 s)
+mmutrace: $sentence
+" && seq -f 'side.rt:%g: error: no such name' 12 >"$work/fail" && fails "$sentence" && sed -i 1d "$errors" &&
+        said "$(head -n 10 "$work/fail")
+mmutrace: $sentence
+"
+}
+
+# cargo goes by times of modification, and still compiles a source that was copied in with an older one.
+tracetext_older_source() {
+    local log=$repository/tools/tracetext/target/tracetext.log
+    fresh && call 7 "$repository/bin/tracetext" decode </dev/null && older "$repository/tools/tracetext/src/usage.txt" && rm -f "$log" &&
+        call 7 "$repository/bin/tracetext" decode </dev/null && grep -q Compiling "$log" &&
+        call 7 "$repository/bin/tracetext" decode </dev/null && said ''
+}
+
 tracetext_fails() {
     local log=tools/tracetext/target/tracetext.log
     fresh && touch "$work/fail" "$repository/tools/tracetext/Cargo.toml" && call 2 "$repository/bin/tracetext" decode </dev/null
@@ -203,7 +314,8 @@ under() {
     shell=$(command -v "$1") && mkdir -p "$work/$1" && ln -sf "$shell" "$work/$1/sh" && cp "$work/path/rt" "$work/$1" || return 1
     (PATH=$work/$1:$PATH && interrupt INT SIGINT sh && fresh && call 7 sh "$repository/bin/mmutrace" "$work/whole.trace" &&
         cmp -s <(tail -n +2 "$out") "$work/whole.trace" && grep -qx 'mmutrace: 4/4 mmutrace' "$errors" &&
-        call 2 sh "$repository/bin/mmutrace" <&- && call 2 sh "$repository/bin/mmutrace" none)
+        call 2 sh "$repository/bin/mmutrace" <&- && call 2 sh "$repository/bin/mmutrace" none && unheard_by sh &&
+        call 7 sh "$repository/bin/mmureport" "$work/program" - </dev/null && [ "$(grep -c -e 'it looks like a text' -e ': it cannot be' "$errors")" -eq 2 ])
 }
 
 verdict "bin/mmutrace builds at the first call, and shows each crate" first_call
@@ -211,8 +323,10 @@ verdict "bin/mmutrace does not build at the second call" second_call
 verdict "bin/mmureport counts the crates that stay proved" another_program
 verdict "bin/mmutrace builds where it is older than a source, or missing" changed_source
 verdict "bin/mmutrace asks once about a source that is the same" same_source
+verdict "bin/mmutrace asks once about a source that was copied in with an older time" older_source
 verdict "bin/mmutrace builds again what changed during a build" source_changed_meanwhile
 verdict "bin/mmutrace does not run what failed to build, and shows what failed" failed_build
+verdict "bin/mmutrace shows the causes of a failed build first" causes_of_failure
 verdict "bin/mmutrace says where a program was lost" lost_program
 verdict "bin/mmutrace says where rt is missing" without_rt
 verdict "bin/mmutrace builds without flock and setsid" without_flock
@@ -229,9 +343,19 @@ for how in INT TERM HUP QUIT; do
 done
 verdict "bin/mmutrace leaves nothing behind after Ctrl-C" interrupt Ctrl-C SIGINT
 verdict "bin/mmutrace does not run what a killed build left" killed
-verdict "bin/mmutrace says where it cannot write" unwritable
+verdict "bin/mmutrace says which folder cannot be made" unmade_folders
+verdict "the scripts say that the sources are missing" without_sources
+verdict "bin/mmutrace runs a copy without rt, and says so" copied_without_rt
+if [ "$(id -u)" -eq 0 ] && command -v setpriv >/dev/null; then
+    verdict "bin/mmutrace says where it cannot write" unwritable
+else
+    echo "not tried, since this is not root with setpriv: a repository that cannot be written"
+fi
+verdict "bin/mmutrace builds where nobody hears it" unheard
+verdict "bin/mmutrace leaves the signal of a pipe as it is" reader_gone
 verdict "bin/mmutrace writes nothing where the program is current" reads_only
 verdict "bin/tracetext builds quietly" tracetext_builds
+verdict "bin/tracetext compiles a source that was copied in with an older time" tracetext_older_source
 verdict "bin/tracetext shows what failed" tracetext_fails
 for shell in dash bash; do
     if command -v "$shell" >/dev/null; then

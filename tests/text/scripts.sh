@@ -19,7 +19,7 @@ cp tools/tracetext/src/usage.txt "$repository/tools/tracetext/src"
 touch "$repository/tools/tracetext/Cargo.toml" "$repository/tools/tracetext/Cargo.lock"
 
 # A folder of tools by name, without rt, cargo and flock.
-for tool in sh dirname readlink find head tail mkdir mktemp touch rm cat sleep chmod setsid stat tr wc awk grep; do
+for tool in sh dirname readlink find head tail mkdir mktemp touch rm cat sleep chmod setsid stat tr wc awk grep xargs; do
     ln -s "$(command -v "$tool")" "$work/no tools/$tool" || exit 2
 done
 
@@ -35,7 +35,7 @@ TEXT
 
 # This rt eats standard input, says what the true one says, and counts its calls. As the true one it breaks where two
 # run at once in one target/, counts on crates that have a stamp, and stumbles over half a library. Files beside the
-# repository tell it to fail, to leave a program as it is, to change a source, to hold on, or to leave half a library
+# repository tell it to fail with the lines of that file, to leave a program as it is, to change a source, to hold on, or to leave half a library
 # and half a program and then take long.
 cat >"$work/path/rt" <<'TEXT'
 #!/bin/sh
@@ -87,6 +87,7 @@ if [ ! -e ../unchanged ]; then
 fi
 rmdir target/running 2>/dev/null
 if [ -e ../fail ]; then
+    cat ../fail
     echo 'fn side::call: not proved'
     echo 'rt: side NOT PROVED (exit 1, 1 s)'
     echo 'rt: middle NOT PROVED: its dependency side is not proved'
@@ -96,13 +97,19 @@ fi
 echo 'rt: ok, some crates proved'
 TEXT
 
+# As the true one this cargo goes by times of modification.
 cat >"$work/path/cargo" <<'TEXT'
 #!/bin/sh
-echo '   Compiling tracetext'
-[ ! -e ../../../fail ] || { echo 'error: no such word' && exit 101; }
-mkdir -p target/release
-cp ../../../program target/release/tracetext
-chmod +x target/release/tracetext
+program=target/release/tracetext
+if [ "$1" = clean ]; then
+    rm -f $program
+elif [ ! -e $program ] || [ -n "$(find Cargo.toml src -newer $program)" ]; then
+    echo '   Compiling tracetext'
+    [ ! -e ../../../fail ] || { echo 'error: no such word' && exit 101; }
+    mkdir -p target/release
+    cp ../../../program $program
+    chmod +x $program
+fi
 TEXT
 chmod +x "$work/program" "$work/path/rt" "$work/path/cargo"
 
@@ -111,11 +118,16 @@ chmod +x "$work/program" "$work/path/rt" "$work/path/cargo"
 out=$work/out
 errors=$work/errors
 
+# started COMMAND..: the command, ended after a time, with the standard streams as they are.
+started() {
+    TMPDIR=$work/temporary PATH=$work/path:$PATH timeout 30 "$@"
+}
+
 # call STATUS COMMAND..: the command, with standard input as it is, ends with this status, and in time.
 call() {
     local expected=$1 status
     shift
-    TMPDIR=$work/temporary PATH=$work/path:$PATH timeout 30 "$@" >"$out" 2>"$errors"
+    started "$@" >"$out" 2>"$errors"
     status=$?
     if [ "$status" -ne "$expected" ]; then
         echo "status $status of: $*"
@@ -154,7 +166,8 @@ built() {
     call 7 "$repository/bin/mmutrace" </dev/null && call 7 "$repository/bin/mmureport" "$work/whole.trace" </dev/null
 }
 
-printf 'abcdefghABCDEFGH' >"$work/whole.trace"
+whole=$'\1bcdefgh\2BCDEFGH'
+printf '%s' "$whole" >"$work/whole.trace"
 printf '\1\2\3\4\5\6\7\10abc' >"$work/cut.trace"
 
 . tests/text/builds.sh

@@ -5,27 +5,48 @@ use std::ffi::{OsStr, OsString};
 use std::fs;
 use std::io::{self, Read, Write};
 use std::process::ExitCode;
-use tracetext::{decode::decode, encode::encode, words::plain};
+use tracetext::{decode::decode, encode::Error, encode::encode, words::is_text, words::plain};
 
 const USAGE: &str = include_str!("usage.txt");
+/// The most errors of a text that are shown.
+const SHOWN_ERRORS: usize = 10;
 
 fn main() -> ExitCode {
     let arguments: Vec<OsString> = env::args_os().skip(1).collect();
     let (direction, file) = match arguments.as_slice() {
-        [help, ..] if help == "--help" => return finish(write(USAGE.as_bytes())),
+        [help, ..] | [_, help, ..] if help == "--help" => return finish(write(USAGE.as_bytes())),
         [direction] => (direction, None),
-        [direction, file] => (direction, Some(file.as_os_str())),
+        [direction, file] => (
+            direction,
+            Some(file.as_os_str()).filter(|&file| file != "-"),
+        ),
         _ => return usage(),
     };
     let result = match direction.to_str() {
         Some("encode") => read(file).and_then(|text| {
-            let name = shown(file);
-            encode(&text).map_err(|errors| errors.iter().map(|e| format!("{name}: {e}")).collect())
+            encode(&text).map_err(|errors| messages(&shown(file), &text, &errors))
         }),
         Some("decode") => read(file).map(|bytes| decode(&bytes).into_bytes()),
         _ => return usage(),
     };
     finish(result.and_then(|bytes| write(&bytes)))
+}
+
+/// What is said about a text with errors: the first of them, how many more there are, and whether it is a trace.
+fn messages(name: &str, text: &[u8], errors: &[Error]) -> Vec<String> {
+    let first = errors.iter().take(SHOWN_ERRORS);
+    let mut messages: Vec<String> = first.map(|error| format!("{name}: {error}")).collect();
+    match errors.len() - messages.len() {
+        0 => {}
+        1 => messages.push(format!("{name}: 1 more error")),
+        more => messages.push(format!("{name}: {more} more errors")),
+    }
+    if !is_text(text) {
+        messages.push(format!(
+            "{name}: it looks like a trace, of which tracetext decode makes a text"
+        ));
+    }
+    messages
 }
 
 /// Reports the errors, if there are any, and gives the exit status.

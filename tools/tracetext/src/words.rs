@@ -45,6 +45,16 @@ fn nibble(digit: u8) -> u8 {
     }
 }
 
+/// The most bytes that are looked at to tell a text from a trace.
+const LOOKED_AT: usize = 64;
+
+/// Does it begin as a text does, without a control character but tabs and ends of lines? Every well-formed record has
+/// one.
+pub fn is_text(bytes: &[u8]) -> bool {
+    let mut first = bytes.iter().take(LOOKED_AT);
+    first.all(|b| !b.is_ascii_control() || b"\t\r\n".contains(b))
+}
+
 /// The most characters of a word that a message has.
 const SHOWN: usize = 40;
 
@@ -120,6 +130,18 @@ mod tests {
     fn bytes_are_written_in_order() {
         assert_eq!(bytes(b"00ff1aB9"), [0, 0xFF, 0x1A, 0xB9]);
         assert_eq!(bytes(b""), []);
+    }
+
+    #[test]
+    fn a_text_begins_without_control_characters() {
+        for text in [b"" as &[u8], b"\tenable 1 # \xC3\xA9\r\n", &[b' '; 100]] {
+            assert!(is_text(text), "{text:?}");
+        }
+        for byte in [0, 8, 0xB, 0xC, 0xE, 0x1F, 0x7F] {
+            assert!(!is_text(&[b'a', byte]), "{byte}");
+        }
+        let at = |place: usize| [vec![b'a'; place], vec![0]].concat();
+        assert!(!is_text(&at(63)) && is_text(&at(64)));
     }
 
     #[test]

@@ -39,6 +39,8 @@ fn standard_input_and_output() {
     assert_eq!(run(&["decode"], &BYTES), good(b"store 5 80000001\n"));
     assert_eq!(run(&["encode"], b""), good(b""));
     assert_eq!(run(&["decode"], b""), good(b""));
+    assert_eq!(run(&["encode", "-"], b"store 5 80000001\n"), good(&BYTES));
+    assert_eq!(run(&["decode", "-"], &BYTES), good(b"store 5 80000001\n"));
 }
 
 #[test]
@@ -72,6 +74,38 @@ fn errors_of_the_text_leave_the_output_empty() {
 }
 
 #[test]
+fn many_errors_are_counted() {
+    let text = "store\n";
+    let all = |lines: std::ops::RangeInclusive<usize>| -> String {
+        let sentence = "store takes an index and a value";
+        let line = |i| format!("tracetext: standard input: line {i}: {sentence}\n");
+        lines.map(line).collect()
+    };
+    for (count, last) in [(10, ""), (11, "1 more error"), (12, "2 more errors")] {
+        let (status, out, errors) = run(&["encode"], text.repeat(count).as_bytes());
+        assert_eq!((status, out), (1, vec![]));
+        let mut expected = all(1..=10);
+        if !last.is_empty() {
+            expected += &format!("tracetext: standard input: {last}\n");
+        }
+        assert_eq!(errors, expected);
+    }
+}
+
+#[test]
+fn a_trace_is_for_decode() {
+    let hint = "tracetext: standard input: it looks like a trace, of which tracetext decode makes a text\n";
+    let (status, out, errors) = run(&["encode"], &BYTES.repeat(1000));
+    assert_eq!((status, out), (1, vec![]));
+    assert!(errors.ends_with(hint), "{errors}");
+    assert_eq!(errors.matches(hint).count(), 1);
+    let (_, _, errors) = run(&["encode"], b"draw 1\n");
+    assert!(!errors.contains(hint), "{errors}");
+    // A comment may have any byte.
+    assert_eq!(run(&["encode"], b"# \0\n"), (0, vec![], String::new()));
+}
+
+#[test]
 fn a_name_disturbs_no_terminal() {
     let path = file("odd\n\u{1b}\u{e9}.text", b"store\n");
     let (status, _, errors) = run(&["encode", path.to_str().unwrap()], b"");
@@ -96,7 +130,12 @@ const USAGE: &str = "usage: tracetext encode [FILE]";
 
 #[test]
 fn help() {
-    for call in [&["--help"] as &[&str], &["--help", "a", "b"]] {
+    for call in [
+        &["--help"] as &[&str],
+        &["--help", "a", "b"],
+        &["encode", "--help"],
+        &["decode", "--help"],
+    ] {
         let (status, out, errors) = run(call, b"");
         assert_eq!((status, errors.as_str()), (0, ""));
         assert!(out.starts_with(USAGE.as_bytes()));
