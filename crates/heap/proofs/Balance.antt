@@ -64,15 +64,10 @@ module _ (first size : ℕ) where
       fits = passed (framesFit first size) 1 0 (λ e. omega arith) z .0;
     })
 
-    new-account : (history : List Event) → KeptThroughout (reply .pool) history
-        → Account (clearPool first size) (lastPool (reply .pool) history) (takenIn history) (givenIn history)
-    new-account history kept =
-        subst (λ (p : Pool). Account p (lastPool (reply .pool) history) (takenIn history) (givenIn history)) new-is
-        (account (reply .pool) new-sound history kept)
-
-    balanced : (history : List Event) → KeptThroughout (reply .pool) history → Balanced first size history (lastPool (reply .pool) history)
+    -- whatever calls led to it by these frames
+    pub balanced : (now : Pool) (taken given : List ℕ) → Account (reply .pool) now taken given → Balanced first size taken given now
     unfolding clearPool heldBy freeFrames heldFrames freeAt isFull heldOutcome heldRefusal takeRefusal fullRefusal giveRefusal byRefusal refuseUnless
-    balanced history kept = record {
+    balanced now taken given account-now = record {
       first-stays = told .first-same;
       size-stays = told .size-same;
       still-fits = told .sound-still .fits;
@@ -89,31 +84,30 @@ module _ (first size : ℕ) where
       give-refused = λ pfn. rw (told .sound-still .fits) (ap (λ (b : Bool). refuseUnless b 11 0) (more-taken pfn));
     }
       where
-        now : Pool
-        now = lastPool (reply .pool) history
+        told : Account (clearPool first size) now taken given
+        told = subst (λ (p : Pool). Account p now taken given) new-is account-now
 
-        told : Account (clearPool first size) now (takenIn history) (givenIn history)
-        told = new-account history kept
-
-        counts : length (takenIn history) ≡ length (givenIn history) + heldFrames now
+        counts : length taken ≡ length given + heldFrames now
         counts = let f = told .frames in omega (arith, no-frames)
 
-        frame-now : (pfn : ℕ) → times pfn (takenIn history) ≡ times pfn (givenIn history) + bit (holds now pfn)
+        frame-now : (pfn : ℕ) → times pfn taken ≡ times pfn given + bit (holds now pfn)
         frame-now pfn =
-            sym (add-zero (times pfn (takenIn history)))
-            ∙ ap (λ (b : Bool). times pfn (takenIn history) + bit b) (sym (holds-none pfn))
+            sym (add-zero (times pfn taken))
+            ∙ ap (λ (b : Bool). times pfn taken + bit b) (sym (holds-none pfn))
             ∙ told .frame pfn
 
-        more-taken : (pfn : ℕ) → holds now pfn ≡ ltb (times pfn (givenIn history)) (times pfn (takenIn history))
+        more-taken : (pfn : ℕ) → holds now pfn ≡ ltb (times pfn given) (times pfn taken)
         more-taken pfn =
-            by-bit (holds now pfn) (times pfn (givenIn history)) (times pfn (takenIn history)) (frame-now pfn)
+            by-bit (holds now pfn) (times pfn given) (times pfn taken) (frame-now pfn)
 
-        held : heldFrames now ≡ length (takenIn history) - length (givenIn history)
+        held : heldFrames now ≡ length taken - length given
         held = let c = counts in omega arith
 
 pub balance : Balance
 unfolding Balance
-balance first size reply made z history kept = balanced first size reply made z history kept
+balance first size reply made z history kept =
+    balanced first size reply made z (lastPool (reply .pool) history) (takenIn history) (givenIn history)
+    (account (reply .pool) (new-sound first size reply made z) history kept)
 
 -- a sequence in two parts
 kept-parts : (p : Pool) (xs ys : List Event) → KeptThroughout p (xs ++ ys) → KeptThroughout p xs × KeptThroughout (lastPool p xs) ys

@@ -19,34 +19,34 @@ use Rattle.heap.specs.declared.PoolReply.{PoolReply}
 
 -- "the held number being counted from the history of takes, mappings among them, and gives": takes and mappings accepted, minus gives
 -- accepted
-unfoldable pub heldBy : List Event → ℕ
-heldBy history = length (takenIn history) - length (givenIn history)
+unfoldable pub heldBy : (taken given : List ℕ) → ℕ
+heldBy taken given = length taken - length given
 
-pub record Balanced (first size : ℕ) (history : List Event) (p : Pool) : Type 0 where
+pub record Balanced (first size : ℕ) (taken given : List ℕ) (p : Pool) : Type 0 where
   -- the pool has the frames that it was made with, so no call that is handed it is refused with 1 for it
   pub first-stays : p .first ≡ first
   pub size-stays : p .size ≡ size
   pub still-fits : poolFits p ≡ true
   -- "frames free plus frames held equals the pool size"
-  pub balance : freeFrames p + heldBy history ≡ size
+  pub balance : freeFrames p + heldBy taken given ≡ size
   -- the history's number is that of the bits set within the size, and the call held answers it
-  pub ones-are-held : heldFrames p ≡ heldBy history
-  pub held-answers : heldOutcome p ≡ Done (heldBy history)
+  pub ones-are-held : heldFrames p ≡ heldBy taken given
+  pub held-answers : heldOutcome p ≡ Done (heldBy taken given)
   -- it is a difference: no more gives were accepted than takes and mappings
-  pub gives-within : length (givenIn history) ≤ length (takenIn history)
+  pub gives-within : length given ≤ length taken
   -- a take is "refused with 10 exactly when every frame is held", by the history
-  pub take-refused : takeRefusal p ≡ refuseUnless (ltb (heldBy history) size) 10 0
+  pub take-refused : takeRefusal p ≡ refuseUnless (ltb (heldBy taken given) size) 10 0
   -- of every frame: it was taken once more than given where it is held, else as often
-  pub each-frame : (pfn : ℕ) → times pfn (takenIn history) ≡ times pfn (givenIn history) + bit (holds p pfn)
+  pub each-frame : (pfn : ℕ) → times pfn taken ≡ times pfn given + bit (holds p pfn)
   -- a give is refused with 11 exactly where the frame was not taken more often than given
   pub give-refused : (pfn : ℕ)
-      → giveRefusal p pfn ≡ refuseUnless (ltb (times pfn (givenIn history)) (times pfn (takenIn history))) 11 0
+      → giveRefusal p pfn ≡ refuseUnless (ltb (times pfn given) (times pfn taken)) 11 0
 
 -- "From a new pool, all free, each call handed the last one's pool"; any sequence of calls, so at the new pool and after each call
 unfoldable pub Balance : Type 0
 Balance =
     (first size : ℕ) (reply : PoolReply) → NewPoolGives first size reply → newRefusal first size ≡ 0
-    → (history : List Event) → KeptThroughout (reply .pool) history → Balanced first size history (lastPool (reply .pool) history)
+    → (history : List Event) → KeptThroughout (reply .pool) history → Balanced first size (takenIn history) (givenIn history) (lastPool (reply .pool) history)
 
 -- two live takes never answer the same frame: between two takes or mappings that answer it, it is given
 unfoldable pub NeverTwiceLive : Type 0

@@ -5,3 +5,4 @@ pub mod Local
 pub mod Ends
 pub mod FaultLaws
 pub mod Stops
+pub mod Ways

@@ -2,7 +2,7 @@
 use Prim.Native.Nat.{ℕ, zero, suc, _+_, _*_, _/_, _%_}
 use mathlib.Core.Bool.{Bool, not, _&&_, _||_}
 use mathlib.Core.List.{List}
-use lib.ListN.{length, take, drop}
+use lib.ListN.{length, getD, take, drop}
 use lib.Dec.{eqb, leb}
 use Rattle.page_table.specs.Words.{reserved, number}
 
@@ -27,6 +27,10 @@ tablesFit words = lengthFits (length words)
 unfoldable pub stretchSize : (levels : ℕ) → ℕ
 stretchSize zero = 1024
 stretchSize (suc n) = 512
+
+-- word j of directory d, which stands for the pages 1024j to 1024j+1023
+unfoldable pub directoryWord : (words : List ℕ) (d j : ℕ) → ℕ
+directoryWord words d j = getD words (512 * d + j) 0
 
 -- the very words of the stretch with a number
 unfoldable pub stretch : (words : List ℕ) (size number : ℕ) → List ℕ

@@ -1,17 +1,17 @@
 -- A word is a leaf word exactly when it is present and stands in a reached table. Assumes nothing.
 use Prim.Native.Nat.{ℕ, suc, _+_, _*_, _/_, _%_, _<_}
 use mathlib.Core.Path.{_≡_, refl, sym, subst}
-use mathlib.Core.Bool.{Bool, true, false, cond, not, _&&_}
+use mathlib.Core.Bool.{Bool, true, false, cond, not, _&&_, _||_}
 use mathlib.Core.List.{List}
 use native.Mathlib.Omega.{arith}
 use lib.ListN.{length, getD}
 use lib.Dec.{eqb}
-use borrow.Author.Tests.{eqb-true, eq-eqb, not-true}
+use borrow.Author.Tests.{eqb-true, eqb-false, eq-eqb, not-true}
 use Rattle.runs.specs.Counts.{any}
-use Rattle.runs.proofs.Bools.{both, and-both, clash, same-test}
+use Rattle.runs.proofs.Bools.{both, and-both, clash, or-neither, same-test}
 use Rattle.runs.proofs.Counts.{any-at, any-from}
-use Rattle.page_table.specs.Words.{present, number}
-use Rattle.page_table.specs.Stretches.{stretchSize, indexIn, broken}
+use Rattle.page_table.specs.Words.{present, number, reserved}
+use Rattle.page_table.specs.Stretches.{stretchSize, indexIn, broken, inside}
 use Rattle.page_table.specs.Walk.{indexBelow, descend, walkTree, leafAt, stopAt}
 use Rattle.page_table.specs.Reads.{leadsOn}
 use Rattle.page_table.specs.declared.Walk.{Walk}
@@ -36,6 +36,14 @@ pub leads-sound : (len levels w : ℕ) → leadsOn len levels w ≡ true → bro
 unfolding leadsOn
 leads-sound len levels w h =
     not-true (broken len (stretchSize levels) w) (both (present w) (not (broken len (stretchSize levels) w)) h .1)
+
+-- and its number is not 0
+pub leads-numbered : (len levels w : ℕ) → leadsOn len levels w ≡ true → number w ≡ 0 → ⊥
+unfolding broken
+leads-numbered len levels w h e =
+    let s = leads-sound len levels w h in
+    let l = or-neither (not (eqb (reserved w) 0) || eqb (number w) 0) (not (inside len (stretchSize levels) (number w))) s .0 in
+    eqb-false (number w) 0 (or-neither (not (eqb (reserved w) 0)) (eqb (number w) 0) l .1) e
 
 -- what it names stands in the run
 leads-inside : (len vpn levels w : ℕ) → vpn < 524288 → leadsOn len levels w ≡ true → indexBelow vpn levels w < len

@@ -19,7 +19,7 @@ use Rattle.page_table.proofs.Stretches.{fit-bounds}
 use Rattle.reach.specs.Reach.{leadsTo, linksTo}
 use Rattle.reach.specs.Index.{linksFrom}
 use Rattle.reach.specs.Relinking.{reachedBeside, reachedWith, rootLinks, relinkedFirst, RelinksAll}
-use Rattle.reach.proofs.LeafLaws.{leads-number}
+use Rattle.reach.proofs.LeafLaws.{leads-number, leads-numbered}
 use Rattle.reach.proofs.LinkLaws.{links-same, leads-fits, passing, first-links, first-fits, passing-none, passing-all}
 
 -- two tests of directories that agree
@@ -30,18 +30,8 @@ by-directory words p q h =
 
 -- no word leads on to number 0
 leads-zero : (len levels w : ℕ) → leadsTo len levels w 0 ≡ false
-unfolding leadsOn broken
-leads-zero len levels w = is-false (leadsTo len levels w 0) (λ h. let l = leads-number len levels w 0 h in none (l .0) (l .1))
-  where
-    nothing : (r i : Bool) → not (r || true || i) ≡ false
-    nothing true i = refl
-    nothing false i = refl
-
-    none : leadsOn len levels w ≡ true → number w ≡ 0 → ⊥
-    none on e =
-        clash (both (present w) (not (broken len (stretchSize levels) w)) on .1)
-        (subst (λ (b : Bool). not (not (eqb (reserved w) 0) || b || not (inside len (stretchSize levels) (number w))) ≡ false)
-        (sym (eq-eqb (number w) 0 e)) (nothing (not (eqb (reserved w) 0)) (not (inside len (stretchSize levels) (number w)))))
+leads-zero len levels w =
+    is-false (leadsTo len levels w 0) (λ h. let l = leads-number len levels w 0 h in leads-numbered len levels w (l .0) (l .1))
 
 beside-zero : (words : List ℕ) (root : ℕ) → reachedBeside words root 0 ≡ false
 unfolding reachedBeside
@@ -147,39 +137,19 @@ module _ (words : List ℕ) (root w : ℕ) where
           ∙ first-links words up (reachedBeside words root) (number w) fits 512 (omega arith)
           ∙ sym (passes up 512 up (passing-all words up (reachedBeside words root) (number w)))
 
--- a loop over the roots: none below r leads on to the directory
-besideAt : (words : List ℕ) (root d r : ℕ) → Bool
+-- a root other than `root` leads on to directory d, by its number
+unfoldable pub besideAt : (words : List ℕ) (root d r : ℕ) → Bool
 besideAt words root d r = not (eqb r root) && leadsTo (length words) 1 (getD words r 0) d
 
-pub record Searched (words : List ℕ) (root d r : ℕ) : Type 0 where
-  pub some : r ≤ 64
-  none : any (besideAt words root d) r ≡ false
+-- the test of one root, in the code's words
+pub beside-at : (words : List ℕ) (root d r w : ℕ) (on : Bool) (n : ℕ) → w ≡ getD words r 0 → on ≡ leadsOn (length words) 1 w → n ≡ number w
+    → not (eqb r root) && (on && eqb n d) ≡ besideAt words root d r
+unfolding leadsTo besideAt
+beside-at words root d r w on n here leads numbered = rw (leads, numbered, here)
 
-pub search-none : (words : List ℕ) (root d : ℕ) → Searched words root d 0
-unfolding any
-search-none words root d = record { some = omega arith; none = refl }
-
-module _ (words : List ℕ) (root d r w : ℕ) (on : Bool) (n : ℕ) (here : w ≡ getD words r 0) (leads : on ≡ leadsOn (length words) 1 w)
-    (numbered : n ≡ number w) where
-  test-is : not (eqb r root) && (on && eqb n d) ≡ besideAt words root d r
-  unfolding leadsTo besideAt
-  test-is = rw (leads, numbered, here)
-
-  pub search-found : r < 64 → not (eqb r root) && (on && eqb n d) ≡ true → true ≡ reachedBeside words root d
-  unfolding reachedBeside besideAt
-  search-found l h = sym (any-from (besideAt words root d) 64 r l (sym test-is ∙ h))
-
-  pub search-on : Searched words root d r → r < 64 → not (eqb r root) && (on && eqb n d) ≡ false → Searched words root d (r + 1)
-  search-on s l h = record {
-    some = omega arith;
-    none = ap (any (besideAt words root d)) (add-one r) ∙ any-suc (besideAt words root d) r (s .none) (sym test-is ∙ h);
-  }
-
-pub search-all : (words : List ℕ) (root d r : ℕ) → Searched words root d r → 64 ≤ r → false ≡ reachedBeside words root d
+pub beside-any : (words : List ℕ) (root d : ℕ) → any (besideAt words root d) 64 ≡ reachedBeside words root d
 unfolding reachedBeside besideAt
-search-all words root d r s m =
-    let q : r ≡ 64 = omega (arith, s .some) in
-    sym (subst (λ (k : ℕ). any (besideAt words root d) k ≡ false) q (s .none))
+beside-any words root d = refl
 
 -- the ways through the shift of a root's directory, in the code's words
 module _ (words : List ℕ) (root w : ℕ) (up : Bool) (links : List ℕ) (e : links ≡ rootLinks (not up) words root w) (on : Bool)

@@ -48,6 +48,11 @@ pub or-false : (b : Bool) → b || false ≡ b
 or-false true = refl
 or-false false = refl
 
+-- where the first holds and both do not, the second does not
+pub second-false : (a b : Bool) → a && b ≡ false → a ≡ true → b ≡ false
+second-false true b f e = f
+second-false false b f e = absurd (clash e refl)
+
 pub or-neither : (a b : Bool) → a || b ≡ false → (a ≡ false) × (b ≡ false)
 or-neither true b h = absurd (clash refl h)
 or-neither false b h = (refl, h)

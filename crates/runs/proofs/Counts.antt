@@ -45,6 +45,10 @@ module _ (p : ℕ → Bool) where
       ⊎-elim (λ (e : k ≡ n). or-left (any p n) (subst (λ (j : ℕ). p j ≡ true) e h))
       (λ (l′ : k < n). or-right (p n) (any-from n k l′ h)) (split l)
 
+  -- none of the numbers below n passes
+  pub any-none : (n k : ℕ) → any p n ≡ false → k < n → p k ≡ false
+  any-none n k h l = is-false (p k) (λ t. clash (any-from n k l t) h)
+
   pub any-suc : (n : ℕ) → any p n ≡ false → p n ≡ false → any p (suc n) ≡ false
   unfolding any
   any-suc n e h = rw (h, e)

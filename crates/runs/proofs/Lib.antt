@@ -5,3 +5,4 @@ pub mod Flags
 pub mod Turns
 pub mod Pieces
 pub mod Fills
+pub mod Searches

@@ -1,3 +1,4 @@
 pub mod Sweeps
 pub mod KeptLaws
 pub mod StoreLaws
+pub mod Scans

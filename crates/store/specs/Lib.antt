@@ -4,3 +4,5 @@ pub mod Claims
 pub mod Rewrite
 pub mod Machine
 pub mod TableStore
+pub mod Scan
+pub mod Stores

@@ -1,19 +1,20 @@
 use Prim.Native.Nat.{_-_}
-use mathlib.Core.Path.{refl}
+use mathlib.Core.Path.{refl, _∙_}
 use native.Mathlib.Omega.{arith}
 use Rattle.page_table.proofs.Stretches.{fit-roots}
-use Rattle.reach.proofs.RootLaws.{Searched, search-none, search-found, search-on, search-all}
+use Rattle.runs.proofs.Searches.{Searched, search-none, search-found, search-on, search-all}
+use Rattle.reach.proofs.RootLaws.{besideAt, beside-at, beside-any}
 use Rattle.reach.proofs.links.reached_beside.Statement.{statement}
 use Rattle.reach.proofs.links.reached_beside.Tie as tie
 
 abbrev Inv-loop : tie.InvT-loop
-Inv-loop words root directory r₀ r = Searched words root directory r
+Inv-loop words root directory r₀ r = Searched (besideAt words root directory) 64 r
 
 abbrev μ-loop : tie.MeasureT-loop
 μ-loop words root directory r₀ r = 64 - r
 
 loop-holds : tie.Need-loop-holds Inv-loop μ-loop
-loop-holds c = search-none _ _ _
+loop-holds c = search-none _ _
 
 cast-word : tie.Need-cast-word Inv-loop μ-loop
 cast-word c = omega arith
@@ -31,8 +32,10 @@ number-of-requires : tie.Need-number-of-requires Inv-loop μ-loop
 number-of-requires c κs = tt
 
 returns : tie.Need-returns Inv-loop μ-loop
-returns c = search-found _ _ _ _ _ _ _ refl (c .before .before .leads-on .ensures) (c .before .number-of .ensures) (omega arith) (c .if1
-    .taken)
+returns c =
+    search-found (besideAt _ _ _) 64 _ _ (beside-at _ _ _ _ _ _ _ refl (c .before .before .leads-on .ensures) (c .before .number-of .ensures))
+    (omega arith) (c .if1 .taken)
+    ∙ beside-any _ _ _
 
 add-r : tie.Need-add-r Inv-loop μ-loop
 add-r c = omega arith
@@ -41,11 +44,12 @@ loop-less : tie.Need-loop-less Inv-loop μ-loop
 loop-less c = omega arith
 
 loop-again : tie.Need-loop-again Inv-loop μ-loop
-loop-again c = search-on _ _ _ _ _ _ _ refl (c .before .before .leads-on .ensures) (c .before .number-of .ensures) (c .before .before
-    .before .before .before .loop .inv) (omega arith) (c .if1 .left)
+loop-again c =
+    search-on (besideAt _ _ _) 64 _ _ (beside-at _ _ _ _ _ _ _ refl (c .before .before .leads-on .ensures) (c .before .number-of .ensures))
+    (omega arith) (c .before .before .before .before .before .loop .inv) (c .if1 .left)
 
 returns-2 : tie.Need-returns-2 Inv-loop μ-loop
-returns-2 c = search-all _ _ _ _ (c .before .loop .inv) (omega arith)
+returns-2 c = search-all (besideAt _ _ _) 64 _ (c .before .loop .inv) (omega arith) ∙ beside-any _ _ _
 
 pub reached-beside-spec : {M : Type 1} → statement M
 reached-beside-spec =
