@@ -1,0 +1,54 @@
+-- What number 12 tells of a tree that passes it: its words stand apart. Assumes nothing.
+use Prim.Native.Nat.{ℕ, zero, suc, _+_, _*_, _/_, _%_, _≤_, _<_}
+use mathlib.Core.Path.{_≡_, refl, sym, ap, _∙_, subst}
+use mathlib.Core.Logic.{_⊎_, inl, inr, ⊎-elim}
+use mathlib.Core.Bool.{Bool, true, false, cond, not, _&&_, _||_}
+use mathlib.Core.List.{List}
+use native.Mathlib.Omega.{arith}
+use lib.ListN.{length, getD}
+use lib.Dec.{eqb}
+use borrow.Author.Tests.{not-true, not-false, eqb-false}
+use Rattle.runs.specs.Counts.{any}
+use Rattle.runs.proofs.Bools.{clash, both, and-both, second-false}
+use Rattle.runs.proofs.Counts.{any-from, any-none}
+use Rattle.page_table.specs.Words.{present, number}
+use Rattle.page_table.specs.Stretches.{stretchSize, broken, directoryWord}
+use Rattle.page_table.specs.Reads.{leadsOn}
+use Rattle.reach.specs.Reach.{leadsTo}
+use Rattle.reach.proofs.LeafLaws.{leads-to}
+use Rattle.trees.specs.Trees.{alsoNamed, namesTable, hasBroken, namesTwice, overlaps, met, apart}
+
+pub record Apart (words : List ℕ) (d : ℕ) : Type 0 where
+  -- a present word of the directory leads on
+  pub sound : (j : ℕ) → j < 512 → present (directoryWord words d j) ≡ true → leadsOn (length words) 0 (directoryWord words d j) ≡ true
+  -- the directory stands in none of its tables
+  pub beside : (j : ℕ) → j < 512 → leadsOn (length words) 0 (directoryWord words d j) ≡ true → number (directoryWord words d j) ≡ d / 2 → ⊥
+  -- and no two of its words lead on to one table
+  pub distinct : (j k : ℕ) → j < 512 → k < j → leadsOn (length words) 0 (directoryWord words d j) ≡ true
+      → leadsOn (length words) 0 (directoryWord words d k) ≡ true → number (directoryWord words d k) ≡ number (directoryWord words d j) → ⊥
+
+pub names-from : (words : List ℕ) (d n t k : ℕ) → k < n → leadsOn (length words) 0 (directoryWord words d k) ≡ true
+    → number (directoryWord words d k) ≡ t → namesTable words d n t ≡ true
+unfolding namesTable
+names-from words d n t k l h e =
+    any-from (λ j. leadsTo (length words) 0 (directoryWord words d j) t) n k l
+    (subst (λ (x : ℕ). leadsTo (length words) 0 (directoryWord words d k) x ≡ true) e (leads-to (length words) 0 (directoryWord words d k) h))
+
+pub apart-told : (words : List ℕ) (id d : ℕ) → apart words id d ≡ true → Apart words d
+unfolding apart hasBroken namesTwice overlaps alsoNamed leadsOn
+apart-told words id d h =
+    let one = both (not (hasBroken words d) && not (namesTwice words d) && not (overlaps words d)) (not (met words id d)) h .0 in
+    let two = both (not (hasBroken words d) && not (namesTwice words d)) (not (overlaps words d)) one in
+    let three = both (not (hasBroken words d)) (not (namesTwice words d)) (two .0) in
+    record {
+      sound = λ j l here.
+          and-both here (ap not (second-false (present (directoryWord words d j)) (broken (length words) (stretchSize 0) (directoryWord words d j))
+          (any-none (λ k. present (directoryWord words d k) && broken (length words) (stretchSize 0) (directoryWord words d k)) 512 j
+          (not-true (hasBroken words d) (three .0)) l) here));
+      beside = λ j l leads e. clash (names-from words d 512 (d / 2) j l leads e) (not-true (overlaps words d) (two .1));
+      distinct = λ j k l less leads leads-k e.
+          clash (names-from words d j (number (directoryWord words d j)) k less leads-k e)
+          (second-false (leadsOn (length words) 0 (directoryWord words d j)) (namesTable words d j (number (directoryWord words d j)))
+          (any-none (λ x. alsoNamed words (directoryWord words d x) d x) 512 j
+          (not-true (namesTwice words d) (three .1)) l) leads);
+    }
