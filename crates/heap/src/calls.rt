@@ -23,7 +23,7 @@ const LARGEST: u32 = 4096;
 const FRAMES: u64 = entry::FRAMES as u64;
 
 // A pool has 1 to 4,096 frames, and none past pfn 524,287.
-pub(crate) fn frames_fit(first: u32, size: u32) -> bool
+pub fn frames_fit(first: u32, size: u32) -> bool
     ensures { λ b. ⌜ b ≡ framesFit first size ⌝ }
 {
     (1 <= size) & (size <= LARGEST) & (first as u64 + size as u64 <= FRAMES)

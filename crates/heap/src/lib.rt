@@ -3,6 +3,7 @@ mod bits;
 mod calls;
 mod maps;
 
+pub use calls::frames_fit;
 pub use calls::give;
 pub use calls::held;
 pub use calls::new_pool;

@@ -32,3 +32,6 @@ pub const FULL: u32 = 10;
 
 // The frame is not held, or outside the pool.
 pub const NOT_HELD: u32 = 11;
+
+// A pass can't be made over the tree: it does not stand by itself, or a frame of the pool is mapped twice, or while it is not held.
+pub const TREE: u32 = 12;

@@ -23,18 +23,25 @@ unfolding written
 written-length [] words = refl
 written-length (p ∷ ps) words = written-length ps (set words (p .index) (p .value)) ∙ length-set words (p .index) (p .value)
 
+-- what every put of a list has
+unfoldable pub Every : (P : Put → Type 0) → List Put → Type 0
+Every P [] = Unit {0}
+Every P (q ∷ qs) = P q × Every P qs
+
+pub every-both : (P : Put → Type 0) (ps qs : List Put) → Every P ps → Every P qs → Every P (ps ++ qs)
+unfolding Every
+every-both P [] qs a b = b
+every-both P (p ∷ ps) qs a b = (a .0, every-both P ps qs (a .1) b)
+
 -- no put is at an index
-unfoldable pub Elsewhere : (ps : List Put) (i : ℕ) → Type 0
-Elsewhere [] i = Unit {0}
-Elsewhere (p ∷ ps) i = (p .index ≡ i → ⊥) × Elsewhere ps i
+abbrev pub Elsewhere : (ps : List Put) (i : ℕ) → Type 0
+Elsewhere ps i = Every (λ p. p .index ≡ i → ⊥) ps
 
 pub elsewhere-both : (ps qs : List Put) (i : ℕ) → Elsewhere ps i → Elsewhere qs i → Elsewhere (ps ++ qs) i
-unfolding Elsewhere
-elsewhere-both [] qs i a b = b
-elsewhere-both (p ∷ ps) qs i a b = (a .0, elsewhere-both ps qs i (a .1) b)
+elsewhere-both ps qs i a b = every-both (λ p. p .index ≡ i → ⊥) ps qs a b
 
 pub written-other : (ps : List Put) (words : List ℕ) (i : ℕ) → Elsewhere ps i → getD (written ps words) i 0 ≡ getD words i 0
-unfolding written Elsewhere
+unfolding written Every
 written-other [] words i e = refl
 written-other (p ∷ ps) words i e =
     written-other ps (set words (p .index) (p .value)) i (e .1)
@@ -44,22 +51,29 @@ module _ (p : ℕ → Bool) (v : ℕ → ℕ) (a : ℕ) where
   abbrev one : (n : ℕ) → List Put
   one n = cond (p (a + n)) (putAt (a + n) (v (a + n)) ∷ []) []
 
-  one-elsewhere : (n i : ℕ) → (i ≡ a + n → ⊥) → Elsewhere (one n) i
-  unfolding Elsewhere
-  one-elsewhere n i ne = go (p (a + n))
+  -- what holds of every word that passes
+  one-every : (P : Put → Type 0) (n : ℕ) → (p (a + n) ≡ true → P (putAt (a + n) (v (a + n)))) → Every P (one n)
+  unfolding Every
+  one-every P n h = go (p (a + n)) h
     where
-      go : (b : Bool) → Elsewhere (cond b (putAt (a + n) (v (a + n)) ∷ []) []) i
-      go true = (λ (e : a + n ≡ i). ne (sym e), tt)
-      go false = tt
+      go : (b : Bool) → (b ≡ true → P (putAt (a + n) (v (a + n)))) → Every P (cond b (putAt (a + n) (v (a + n)) ∷ []) [])
+      go true f = (f refl, tt)
+      go false f = tt
+
+  pub scan-every : (P : Put → Type 0) (n : ℕ) → ((k : ℕ) → k < n → p (a + k) ≡ true → P (putAt (a + k) (v (a + k))))
+      → Every P (putsFrom p v a n)
+  unfolding Every putsFrom
+  scan-every P zero h = tt
+  scan-every P (suc n) h =
+      every-both P (putsFrom p v a n) (one n) (scan-every P n (λ k l. h k (omega arith))) (one-every P n (h n (lt-suc-self n)))
+
+  one-elsewhere : (n i : ℕ) → (i ≡ a + n → ⊥) → Elsewhere (one n) i
+  one-elsewhere n i ne = one-every (λ q. q .index ≡ i → ⊥) n (λ t (e : a + n ≡ i). ne (sym e))
 
   -- an index outside of the scan
   pub scan-elsewhere : (n i : ℕ) → ((i < a) ⊎ (a + n ≤ i)) → Elsewhere (putsFrom p v a n) i
-  unfolding Elsewhere putsFrom
-  scan-elsewhere zero i out = tt
-  scan-elsewhere (suc n) i out =
-      elsewhere-both (putsFrom p v a n) (one n) i
-      (scan-elsewhere n i (⊎-elim (λ l. inl l) (λ l. inr (omega arith)) out))
-      (one-elsewhere n i (λ (e : i ≡ a + n). ⊎-elim (λ l. omega arith) (λ l. omega arith) out))
+  scan-elsewhere n i out =
+      scan-every (λ q. q .index ≡ i → ⊥) n (λ k l t (e : a + k ≡ i). ⊎-elim (λ u. omega arith) (λ u. omega arith) out)
 
   one-at : (words : List ℕ) (n : ℕ) → a + n < length words
       → getD (written (one n) words) (a + n) 0 ≡ cond (p (a + n)) (v (a + n)) (getD words (a + n) 0)

@@ -16,7 +16,7 @@ use Rattle.page_table.specs.Stretches.{stretchSize, broken, directoryWord}
 use Rattle.page_table.specs.Reads.{leadsOn}
 use Rattle.reach.specs.Reach.{leadsTo}
 use Rattle.reach.proofs.LeafLaws.{leads-to}
-use Rattle.trees.specs.Trees.{alsoNamed, namesTable, hasBroken, namesTwice, overlaps, met, apart}
+use Rattle.trees.specs.Trees.{alsoNamed, namesTable, hasBroken, namesTwice, overlaps, met, apart, treeFits}
 
 pub record Apart (words : List ℕ) (d : ℕ) : Type 0 where
   -- a present word of the directory leads on
@@ -52,3 +52,13 @@ apart-told words id d h =
           (any-none (λ x. alsoNamed words (directoryWord words d x) d x) 512 j
           (not-true (namesTwice words d) (three .1)) l) leads);
     }
+
+-- a tree that passes number 12 and has a directory stands apart
+pub fits-apart : (words : List ℕ) (id : ℕ) → leadsOn (length words) 1 (getD words id 0) ≡ true → treeFits words id ≡ true
+    → apart words id (number (getD words id 0)) ≡ true
+unfolding treeFits leadsOn
+fits-apart words id leads fits =
+    let w = getD words id 0 in
+    let here = both (present w) (not (broken (length words) (stretchSize 1) w)) leads .0 in
+    both (not (broken (length words) (stretchSize 1) w)) (apart words id (number w))
+    (sym (ap (λ (b : Bool). cond b (not (broken (length words) (stretchSize 1) w) && apart words id (number w)) true) here) ∙ fits) .1

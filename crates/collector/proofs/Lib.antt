@@ -1,0 +1,10 @@
+pub mod Puts
+pub mod Passes
+pub mod WordLaws
+pub mod TurnLaws
+pub mod TreeTurns
+pub mod CheckLaws
+pub mod StoreTurns
+pub mod FrameLaws
+pub mod Visited
+pub mod CollectLaws

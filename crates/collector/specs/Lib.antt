@@ -1,0 +1,4 @@
+pub mod Visits
+pub mod Frames
+pub mod Turns
+pub mod Collect
