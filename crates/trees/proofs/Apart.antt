@@ -1,7 +1,7 @@
 -- What number 12 tells of a tree that passes it: its words stand apart. Assumes nothing.
 use Prim.Native.Nat.{ℕ, _/_, _<_}
 use mathlib.Core.Path.{_≡_, ap, subst}
-use mathlib.Core.Bool.{true, not, _&&_}
+use mathlib.Core.Bool.{true, false, not, _&&_}
 use mathlib.Core.List.{List}
 use lib.ListN.{length}
 use borrow.Author.Tests.{not-true}
@@ -59,3 +59,10 @@ apart-told words id d h =
           (any-none (λ x. alsoNamed words (directoryWord words d x) d x) 512 j
           (not-true (namesTwice words d) (three .1)) l) leads);
     }
+
+-- and no other root's stretches meet it
+pub apart-alone : (words : List ℕ) (id d : ℕ) → apart words id d ≡ true → met words id d ≡ false
+unfolding apart
+apart-alone words id d h =
+    not-true (met words id d)
+    (both (not (hasBroken words d) && not (namesTwice words d) && not (overlaps words d)) (not (met words id d)) h .1)
