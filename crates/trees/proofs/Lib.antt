@@ -1,1 +1,4 @@
 pub mod Apart
+pub mod TreeLaws
+pub mod MeetLaws
+pub mod FitLaws

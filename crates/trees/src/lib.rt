@@ -6,7 +6,8 @@ ghost use Prim.Native.Nat.{_+_, _*_, _≤_, _<_};
 ghost use lib.ListN.{length};
 ghost use Rattle.page_table.specs.Stretches.{ROOTS};
 ghost use Rattle.reach.specs.Reach.{leadsTo};
-ghost use Rattle.trees.specs.Trees.{alsoNamed, apart, hasBroken, meets, meetsRoot, met, namesTable, namesTwice, overlaps, sharesTable, treeFits};
+ghost use Rattle.trees.specs.Trees.{namesTable, alsoNamed, hasBroken, namesTwice, overlaps};
+ghost use Rattle.trees.specs.Trees.{sharesTable, meets, meetsRoot, met, apart, treeFits};
 
 // Whether a word leads on to the table of a number, in a run of a length.
 fn leads_to(length: usize, word: u32, table: usize) -> bool
