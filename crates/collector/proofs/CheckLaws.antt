@@ -198,8 +198,8 @@ module _ (words : List ℕ) (first size d : ℕ) (p : Pool) where
     pub tree-skip : b ≡ false → GivingTree left (j + 1)
     tree-skip h =
         let same : seen-tree (j + 1) ≡ seen-tree j =
-            ap seen-tree (add-one j) ∙ tree-next ∙ ap (λ (x : Bool). seen-tree j ++ cond x (tableLeaves words first size (number w)) []) h
-            ∙ append-nil (seen-tree j) in
+        ap seen-tree (add-one j) ∙ tree-next ∙ ap (λ (x : Bool). seen-tree j ++ cond x (tableLeaves words first size (number w)) []) h
+        ∙ append-nil (seen-tree j) in
         record {
           some = omega arith;
           all-given = ap (λ (ps : List Put). allGiven p (pfnsOf ps)) same ∙ g .all-given;

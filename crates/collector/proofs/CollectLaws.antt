@@ -3,9 +3,9 @@ use Prim.Native.Nat.{ℕ, _+_, _*_, _≤_, _<_}
 use mathlib.Core.Path.{_≡_, refl, sym, ap, ap₂, _∙_, subst}
 use mathlib.Core.Logic.{_≢_}
 use mathlib.Core.Bool.{Bool, true, false, cond, not, _&&_}
-use mathlib.Core.List.{List, []}
+use mathlib.Core.List.{List, [], map}
 use native.Mathlib.Omega.{arith}
-use lib.ListN.{length, getD}
+use lib.ListN.{length, getD, length-map}
 use lib.Dec.{leb}
 use borrow.Author.Tests.{not-true, not-false, leb-true}
 use Rattle.runs.proofs.Bools.{both, clash}
@@ -65,6 +65,10 @@ module _ (words : List ℕ) (id root : ℕ) (wq : root ≡ getD words id 0) (b :
       subst (λ (n : ℕ). 512 * n + 512 ≤ length words) own-is (leads-fits (length words) 1 (getD words id 0) own-leads),
       subst (λ (n : ℕ). apart words id n ≡ true) own-is (fits-apart words id own-leads fits),
     )
+
+-- a pool of code that fits: its array has 64 words
+pub whole-pool : (p : Pool) → length (map (λ (v : ℕ). v) (p .bits)) ≡ 64 → poolFits p ≡ true → Sound p
+whole-pool p e fits = record { all-words = sym (length-map (p .bits) (λ (v : ℕ). v)) ∙ e; fits = fits }
 
 -- number 12
 module _ (words : List ℕ) (p : Pool) (id : ℕ) (t : Bool) (tq : t ≡ treeFits words id) where
@@ -138,18 +142,17 @@ module _ (m : Machine) (p : Pool) (id : ℕ) where
     pub accepted-grounds : Grounds m p id
     accepted-grounds = collect-grounds m p id (sym nq ∙ z)
 
-    before : State
+    abbrev before : State
     before = record { buffer = m .buffer; words = m .words; aged = atFirst p }
 
-    ends : SameEnd (turns before (visitedBy m p id)) 0 (afterStores m (storesOf m p id)) (emptiedIn m (storesOf m p id))
-    unfolding visitedBy storesOf before
-    ends =
-        as-stores (record { buffer = m .buffer; words = m .words; aged = atFirst p }) m (accepted-grounds .ready) refl refl
-        (passLeaves (m .words) (p .first) (p .size) id) (pass-inside (m .words) (p .first) (p .size) id)
+    abbrev leaves : List Put
+    leaves = passLeaves (m .words) (p .first) (p .size) id
+
+    ends : SameEnd (turns before leaves) 0 (afterStores m (agedPuts leaves)) (emptiedIn m (agedPuts leaves))
+    ends = as-stores before m (accepted-grounds .ready) refl refl leaves (pass-inside (m .words) (p .first) (p .size) id)
 
     pub collect-done : (after : Buffer) (words : List ℕ) (aged : Aged)
-        → _≡_ {A = State} (record { buffer = after; words = words; aged = aged })
-        (turns (record { buffer = m .buffer; words = m .words; aged = atFirst p }) (passLeaves (m .words) (p .first) (p .size) id))
+        → _≡_ {A = State} (record { buffer = after; words = words; aged = aged }) (turns before leaves)
         → (reply : Reply) → reply ≡ done (m .registers) (aged .emptied)
         → CollectGives m p id (record { reply = reply; given = aged .given; pool = aged .pool }) after words
     unfolding collectAnswer bufferAfterCollect wordsAfterCollect visitedBy storesOf
@@ -159,21 +162,14 @@ module _ (m : Machine) (p : Pool) (id : ℕ) where
         (when-accepted _ n nq _ _ _ z (ap (λ (s : State). s .buffer) q ∙ ends .same-buffer))
         (when-accepted _ n nq _ _ _ z (ap (λ (s : State). s .words) q ∙ ends .same-words))
       where
-        ls : List Put
-        ls = passLeaves (m .words) (p .first) (p .size) id
-
-        total : aged .emptied ≡ emptiedIn m (agedPuts (passLeaves (m .words) (p .first) (p .size) id))
+        total : aged .emptied ≡ emptiedIn m (agedPuts leaves)
         total = omega (arith, ap (λ (s : State). s .aged .emptied) q, ends .same-total)
 
-        reply-is : reply ≡ done (m .registers) (emptiedIn m (agedPuts (passLeaves (m .words) (p .first) (p .size) id)))
+        reply-is : reply ≡ done (m .registers) (emptiedIn m (agedPuts leaves))
         reply-is = r ∙ ap (done (m .registers)) total
 
-        given-is : aged .given ≡ length (givenOf (passLeaves (m .words) (p .first) (p .size) id))
-        given-is =
-            omega (arith, ap (λ (s : State). s .aged .given) q,
-            turns-count (record { buffer = m .buffer; words = m .words; aged = atFirst p }) (passLeaves (m .words) (p .first) (p .size) id))
+        given-is : aged .given ≡ length (givenOf leaves)
+        given-is = omega (arith, ap (λ (s : State). s .aged .given) q, turns-count before leaves)
 
-        pool-is : aged .pool ≡ poolAfterGives p (givenOf (passLeaves (m .words) (p .first) (p .size) id))
-        pool-is =
-            ap (λ (s : State). s .aged .pool) q
-            ∙ turns-pool (record { buffer = m .buffer; words = m .words; aged = atFirst p }) (passLeaves (m .words) (p .first) (p .size) id)
+        pool-is : aged .pool ≡ poolAfterGives p (givenOf leaves)
+        pool-is = ap (λ (s : State). s .aged .pool) q ∙ turns-pool before leaves

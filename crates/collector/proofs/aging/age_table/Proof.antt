@@ -39,13 +39,17 @@ cast-age-leaf : tie.Need-cast-age-leaf Inv-loop μ-loop
 cast-age-leaf c = omega (arith, c .before .before .before .before .before .before .before .before .before .pre)
 
 age-leaf-requires : tie.Need-age-leaf-requires Inv-loop μ-loop
-age-leaf-requires c κs = 
+age-leaf-requires c κs =
     let start = c .before .before .before .before .before .before .before .before .before .pre in
     let so-far = c .before .before .before .before .before .before .loop .inv in
-    let long = going-length _ _ _ _ _ _ so-far in
-    (going-fits _ _ _ _ _ _ so-far ∙ start .0, omega (arith, start), omega (arith, start),
-    visited-present _ _ _ _ (c .before .before .before .is-visited .ensures) (c .before .before .if1 .taken),
-    omega (arith, start, going-given _ _ _ _ _ _ so-far), omega (arith, start, going-emptied _ _ _ _ _ _ so-far))
+    let long = going-length _ _ _ _ _ _ so-far in (
+      going-fits _ _ _ _ _ _ so-far ∙ start .0,
+      omega (arith, start),
+      omega (arith, start),
+      visited-present _ _ _ _ (c .before .before .before .is-visited .ensures) (c .before .before .if1 .taken),
+      omega (arith, start, going-given _ _ _ _ _ _ so-far),
+      omega (arith, start, going-emptied _ _ _ _ _ _ so-far),
+    )
 
 loop-less : tie.Need-loop-less Inv-loop μ-loop
 loop-less c = omega arith

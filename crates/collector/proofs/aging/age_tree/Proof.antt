@@ -40,13 +40,17 @@ number-of-requires c κs = tt
 
 age-table-requires : tie.Need-age-table-requires Inv-loop μ-loop
 unfolding directoryWord
-age-table-requires c κs = 
+age-table-requires c κs =
     let start = c .before .before .before .before .before .before .before .before .before .before .pre in
     let so-far = c .before .before .before .before .before .before .before .loop .inv in
-    let long = climbing-length _ _ _ _ _ _ so-far in
-    (climbing-fits _ _ _ _ _ _ so-far ∙ start .0, omega (arith, start), omega (arith, start),
-    climbing-table _ _ _ _ _ _ so-far _ (start .4) (omega arith) _ refl _ (c .before .before .before .before .leads-on .ensures) (c .before .before .before .if1 .taken) _ (c .number-of .ensures),
-    omega (arith, start, climbing-given _ _ _ _ _ _ so-far), omega (arith, start, climbing-emptied _ _ _ _ _ _ so-far))
+    let long = climbing-length _ _ _ _ _ _ so-far in (
+      climbing-fits _ _ _ _ _ _ so-far ∙ start .0,
+      omega (arith, start),
+      omega (arith, start),
+      climbing-table _ _ _ _ _ _ so-far _ (start .4) (omega arith) _ refl _ (c .before .before .before .before .leads-on .ensures) (c .before .before .before .if1 .taken) _ (c .number-of .ensures),
+      omega (arith, start, climbing-given _ _ _ _ _ _ so-far),
+      omega (arith, start, climbing-emptied _ _ _ _ _ _ so-far),
+    )
 
 loop-less : tie.Need-loop-less Inv-loop μ-loop
 loop-less c = omega arith

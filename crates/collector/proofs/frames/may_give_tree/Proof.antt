@@ -39,8 +39,10 @@ number-of-requires c κs = tt
 
 give-table-requires : tie.Need-give-table-requires Inv-loop μ-loop
 unfolding directoryWord
-give-table-requires c κs = (c .before .before .before .before .before .before .before .pre .0,
-    tree-fits _ _ _ _ _ _ _ (c .before .before .before .before .before .loop .inv) (omega arith) _ refl _ (c .before .before .leads-on .ensures) (c .before .if1 .taken) _ (c .number-of .ensures))
+give-table-requires c κs = (
+  c .before .before .before .before .before .before .before .pre .0,
+  tree-fits _ _ _ _ _ _ _ (c .before .before .before .before .before .loop .inv) (omega arith) _ refl _ (c .before .before .leads-on .ensures) (c .before .if1 .taken) _ (c .number-of .ensures),
+)
 
 returns : tie.Need-returns Inv-loop μ-loop
 unfolding directoryWord
