@@ -1,0 +1,1 @@
+// What passes of the reference collector come to: theorems, no code.
