@@ -71,17 +71,17 @@ module _ (words : List ℕ) (id : ℕ) (root : leadsOn (length words) 1 (getD wo
       let a = apart-told words id d h in
       record {
         root = root;
-        sound = a .sound;
+        sound = λ j jl p. a .sound j (omega arith) p;
         distinct = λ j k jl kl pj pk e.
-            let oj = a .sound j jl pj in
-            let ok = a .sound k kl pk in
-            same j k (λ l. a .distinct j k jl l oj ok (sym e)) (λ l. a .distinct k j kl l ok oj e);
-        beside = λ i j jl p low high. a .beside j jl (a .sound j jl p) (omega arith);
+            let oj = a .sound j (omega arith) pj in
+            let ok = a .sound k (omega arith) pk in
+            same j k (λ l. a .distinct j k (omega arith) l oj ok (sym e)) (λ l. a .distinct k j (omega arith) l ok oj e);
+        beside = λ i j jl p low high. a .beside j (omega arith) (a .sound j (omega arith) p) (omega arith);
         alone = λ r i rl ne own other.
             clash
             (root-from words id d r ne (other .0)
             (word-meet words id r root (other .0) i (reached-lies words id i (root, own)) (reached-lies words r i other)))
-            (any-none (meetsRoot words id d) 64 r (apart-alone words id d h) rl);
+            (any-none (meetsRoot words id d) 64 r (apart-alone words id d h) (omega arith));
       }
     where
       same : (j k : ℕ) → (k < j → ⊥) → (j < k → ⊥) → j ≡ k
@@ -96,7 +96,7 @@ module _ (words : List ℕ) (id : ℕ) (root : leadsOn (length words) 1 (getD wo
         (λ t.
         let f = any-at (λ j. present (w j) && broken (length words) (stretchSize 0) (w j)) 512 t in
         let p = both (present (w (f .0))) (broken (length words) (stretchSize 0) (w (f .0))) (f .2) in
-        clash (p .1) (leads-sound (length words) 0 (w (f .0)) (s .sound (f .0) (f .1) (p .0))))
+        clash (p .1) (leads-sound (length words) 0 (w (f .0)) (s .sound (f .0) (omega (arith, f .1)) (p .0))))
 
     none-twice : namesTwice words d ≡ false
     unfolding namesTwice alsoNamed
@@ -108,7 +108,7 @@ module _ (words : List ℕ) (id : ℕ) (root : leadsOn (length words) 1 (getD wo
         let p = both (leadsOn (length words) 0 (w j)) (namesTable words d j (number (w j))) (f .2) in
         let n = names-told words d j (number (w j)) (p .1) in
         let k : ℕ = n .0 in
-        let e : j ≡ k = s .distinct j k (f .1) (omega (arith, n .1, f .1)) (leads-present (length words) 0 (w j) (p .0))
+        let e : j ≡ k = s .distinct j k (omega (arith, f .1)) (omega (arith, n .1, f .1)) (leads-present (length words) 0 (w j) (p .0))
         (leads-present (length words) 0 (w k) (n .2)) (sym (n .3)) in
         omega (arith, n .1))
 
@@ -118,7 +118,8 @@ module _ (words : List ℕ) (id : ℕ) (root : leadsOn (length words) 1 (getD wo
         is-false (namesTable words d 512 (d / 2))
         (λ t.
         let n = names-told words d 512 (d / 2) t in
-        s .beside (512 * d) (n .0) (n .1) (leads-present (length words) 0 (w (n .0)) (n .2)) (omega arith) (omega (arith, n .3)))
+        s .beside (512 * d) (n .0) (omega (arith, n .1)) (leads-present (length words) 0 (w (n .0)) (n .2)) (omega arith)
+        (omega (arith, n .3)))
 
     none-met : met words id d ≡ false
     unfolding met Reaches
@@ -128,7 +129,8 @@ module _ (words : List ℕ) (id : ℕ) (root : leadsOn (length words) 1 (getD wo
         let f = any-at (meetsRoot words id d) 64 t in
         let r = root-told words id d (f .0) (f .2) in
         let i = meet-word words id (f .0) root (r .1) (r .2) in
-        s .alone (f .0) (i .0) (f .1) (r .0) (lies-reached words id (i .0) (i .2) .1) (lies-reached words (f .0) (i .0) (i .3)))
+        s .alone (f .0) (i .0) (omega (arith, f .1)) (r .0) (lies-reached words id (i .0) (i .2) .1)
+        (lies-reached words (f .0) (i .0) (i .3)))
 
     passes : apart words id d ≡ true
     unfolding apart
