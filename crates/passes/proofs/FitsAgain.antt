@@ -6,7 +6,7 @@ use mathlib.Core.List.{List, []}
 use native.Mathlib.Omega.{arith}
 use lib.ListN.{length, getD}
 use lib.Dec.{eqb}
-use borrow.Author.Tests.{not-true, not-false, eq-eqb}
+use borrow.Author.Tests.{not-true, not-false, eqb-false, eq-eqb}
 use Rattle.runs.specs.Counts.{any}
 use Rattle.runs.proofs.Bools.{is-false, clash, both, and-both, or-left, or-right}
 use Rattle.runs.proofs.Counts.{any-at, any-from, any-same}
@@ -20,7 +20,8 @@ use Rattle.store.proofs.Scans.{written-other}
 use Rattle.trees.specs.Trees.{namesTable, alsoNamed, hasBroken, namesTwice, overlaps, sharesTable, meets, meetsRoot, met, apart, treeFits}
 use Rattle.collector.specs.Visits.{passLeaves, agedPuts, passWords}
 use Rattle.collector.proofs.Puts.{treePuts}
-use Rattle.trees.proofs.Apart.{Apart, names-from, apart-told, apart-alone}
+use Rattle.trees.proofs.Apart.{Apart, apart-told, apart-alone, fits-apart}
+use Rattle.passes.proofs.OtherRoots.{other-word}
 use Rattle.collector.proofs.Passes.{tree-elsewhere, pass-is, pass-length, pass-root, pass-word}
 
 -- directories whose words are the same in both runs
@@ -69,16 +70,8 @@ module _ (a b : List ℕ) (long : length a ≡ length b) where
       (any-same (λ j. alsoNamed a (directoryWord a e j) d 512) (λ j. alsoNamed b (directoryWord b e j) d 512) 512
       (λ j l. also-same e j d 512 l (omega arith) t s))
 
-met-by : (words : List ℕ) (id d r : ℕ) → r < 64 → not (eqb r id) ≡ true → leadsOn (length words) 1 (getD words r 0) ≡ true
-    → namesTable words d 512 (number (getD words r 0) / 2) ≡ true → met words id d ≡ true
-unfolding met meetsRoot meets
-met-by words id d r l ne leads n =
-    let e = number (getD words r 0) in
-    any-from (meetsRoot words id d) 64 r l
-    (and-both (and-both ne leads) (or-left (sharesTable words d e) (or-left (namesTable words e 512 (d / 2)) (or-right (eqb d e) n))))
-
 module _ (words : List ℕ) (first size id : ℕ) (known : id < 64) (root : leadsOn (length words) 1 (getD words id 0) ≡ true)
-    (ok : apart words id (number (getD words id 0)) ≡ true) where
+    (fits : treeFits words id ≡ true) where
   abbrev after : List ℕ
   after = passWords words first size id
 
@@ -88,6 +81,9 @@ module _ (words : List ℕ) (first size id : ℕ) (known : id < 64) (root : lead
   long : length after ≡ length words
   long = pass-length words first size id root
 
+  ok : apart words id (number (getD words id 0)) ≡ true
+  ok = fits-apart words id root fits
+
   own-apart : Apart words (number (getD words id 0))
   own-apart = apart-told words id d ok
 
@@ -96,17 +92,6 @@ module _ (words : List ℕ) (first size id : ℕ) (known : id < 64) (root : lead
 
   own-same : (j : ℕ) → j < 512 → directoryWord after d j ≡ directoryWord words d j
   own-same j l = pass-word words first size id root own-apart j l
-
-  -- the words of another root's directory stay: none of them stands in an own table
-  pub other-word : (r : ℕ) → r < 64 → not (eqb r id) ≡ true → leadsOn (length words) 1 (getD words r 0) ≡ true → (j : ℕ) → j < 512
-      → directoryWord (passWords words first size id) (number (getD words r 0)) j ≡ directoryWord words (number (getD words r 0)) j
-  unfolding directoryWord
-  other-word r l ne leads j u =
-      ap (λ (ws : List ℕ). getD ws (512 * number (getD words r 0) + j) 0) (pass-is words first size id root)
-      ∙ written-other (treePuts words first size d 512) words (512 * number (getD words r 0) + j)
-      (tree-elsewhere words first size d 512 (512 * number (getD words r 0) + j)
-      (λ k kl leads-k (e : (512 * number (getD words r 0) + j) / 1024 ≡ number (directoryWord words d k)).
-      clash (met-by words id d r l ne leads (names-from words d 512 (number (getD words r 0) / 2) k kl leads-k (omega arith))) not-met))
 
   still-alone : met after id d ≡ false
   unfolding met meetsRoot
@@ -121,7 +106,7 @@ module _ (words : List ℕ) (first size id : ℕ) (known : id < 64) (root : lead
       let met-now = ap (λ (w : ℕ). meets after d (number w)) (sym same) ∙ outer .1 in
       clash (any-from (meetsRoot words id d) 64 r (s .1)
       (and-both (and-both (inner .0) leads)
-      (sym (meets-same after words long d (number (getD words r 0)) own-same (other-word r (s .1) (inner .0) leads)) ∙ met-now))) not-met)
+      (sym (meets-same after words long d (number (getD words r 0)) own-same (other-word words first size id root fits r (s .1) (eqb-false r id (not-true (eqb r id) (inner .0))) leads)) ∙ met-now))) not-met)
 
   pub apart-again : apart after id d ≡ true
   unfolding apart
@@ -133,14 +118,14 @@ module _ (words : List ℕ) (first size id : ℕ) (known : id < 64) (root : lead
       (ap not still-alone)
 
 led : (words : List ℕ) (first size id : ℕ) → id < 64 → present (getD words id 0) ≡ true
-    → not (broken (length words) (stretchSize 1) (getD words id 0)) ≡ true → apart words id (number (getD words id 0)) ≡ true
+    → not (broken (length words) (stretchSize 1) (getD words id 0)) ≡ true → treeFits words id ≡ true
     → treeFits (passWords words first size id) id ≡ true
 unfolding treeFits leadsOn
-led words first size id known p b ok =
+led words first size id known p b fits =
     let root : leadsOn (length words) 1 (getD words id 0) ≡ true = and-both p b in
     let same = pass-root words first size id root id known in
     let long = pass-length words first size id root in
-    rw (same, long, p) (and-both b (apart-again words first size id known root ok))
+    rw (same, long, p) (and-both b (apart-again words first size id known root fits))
 
 unled : (words : List ℕ) (first size id : ℕ) → present (getD words id 0) ≡ false → treeFits (passWords words first size id) id ≡ true
 unfolding treeFits passWords passLeaves agedPuts leadsOn written
@@ -156,5 +141,5 @@ fits-again words first size id known fits = by-present (present (getD words id 0
         → treeFits (passWords words first size id) id ≡ true
     by-present true e h =
         let parts = both (not (broken (length words) (stretchSize 1) (getD words id 0))) (apart words id (number (getD words id 0))) h in
-        led words first size id known e (parts .0) (parts .1)
+        led words first size id known e (parts .0) fits
     by-present false e h = unled words first size id e

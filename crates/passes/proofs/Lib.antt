@@ -3,5 +3,7 @@ pub mod Ages
 pub mod GoneWords
 pub mod Accepted
 pub mod TwoPasses
+pub mod OtherRoots
 pub mod FitsAgain
 pub mod Repeat
+pub mod Repeated
