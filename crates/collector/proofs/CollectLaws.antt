@@ -23,6 +23,7 @@ use Rattle.slots.specs.Buffer.{Buffer, bufferFits}
 use Rattle.store.specs.Machine.{Machine}
 use Rattle.store.specs.Rewrite.{Put}
 use Rattle.store.specs.Stores.{afterStores, emptiedIn}
+use Rattle.store.proofs.Storing.{Ready}
 use Rattle.heap.specs.Pools.{poolFits}
 use Rattle.heap.specs.declared.Pool.{Pool}
 use Rattle.heap.proofs.Marks.{Sound}
@@ -35,7 +36,7 @@ use Rattle.collector.specs.Collect.{visitedBy, storesOf, mayCollect, col
 use Rattle.collector.specs.Collect.{bufferAfterCollect, wordsAfterCollect, CollectGives}
 use Rattle.collector.specs.declared.Aged.{Aged}
 use Rattle.collector.specs.declared.Collected.{Collected}
-use Rattle.collector.proofs.StoreTurns.{Ready, SameEnd, turns-count, turns-pool, as-stores}
+use Rattle.collector.proofs.StoreTurns.{SameEnd, turns-count, turns-pool, as-stores}
 use Rattle.collector.proofs.Visited.{pass-inside, pass-frames}
 
 -- the root of the tree, as the code reads it

@@ -22,7 +22,7 @@ use Rattle.store.specs.Sweep.{swept, emptied}
 use Rattle.store.specs.TableStore.{indexFits, storeRefusal, storedWords, storeReply, bufferAfterStore, wordsAfterStore}
 use Rattle.store.proofs.Sweeps.{swept-fits}
 use Rattle.store.proofs.Scans.{Every}
-use Rattle.heap.proofs.MapLaws.{store-answers}
+use Rattle.store.proofs.Storing.{Ready, put-buffer, put-words, put-emptied, ready-after}
 use Rattle.heap.specs.Give.{giveReply}
 use Rattle.collector.specs.Visits.{aged, agedPuts}
 use Rattle.collector.specs.Turns.{State, poolAfter, turn, turns}
@@ -57,39 +57,6 @@ turns-pool s (q ∷ qs) = turns-pool (turn s q) qs ∙ go (leafValid (q .value))
 abbrev pub AllInside : (len : ℕ) → List Put → Type 0
 AllInside len = Every (λ q. q .index < len)
 
-pub record Ready (m : Machine) : Type 0 where
-  pub registers-fit : registersFit (m .registers) ≡ true
-  pub buffer-fits : bufferFits (m .buffer) ≡ true
-  pub words-fit : tablesFit (m .words) ≡ true
-
-module _ (m : Machine) (ready : Ready m) (q : Put) (inside : q .index < length (m .words)) where
-  accepted : storeRefusal m (q .index) ≡ 0
-  unfolding storeRefusal refuseUnless indexFits
-  accepted = rw (ready .registers-fit, ready .buffer-fits, ready .words-fit, lt-ltb (q .index) (length (m .words)) inside)
-
-  buffer-now : bufferAfterStore m q ≡ swept (set (m .words) (q .index) (q .value)) (m .buffer)
-  unfolding bufferAfterStore storedWords written
-  buffer-now = sym (when-accepted _ 0 (sym accepted) _ _ _ refl refl)
-
-  words-now : wordsAfterStore m q ≡ set (m .words) (q .index) (q .value)
-  unfolding wordsAfterStore storedWords written
-  words-now = sym (when-accepted _ 0 (sym accepted) _ _ _ refl refl)
-
-  registers-now : (storeReply m q) .registers ≡ m .registers
-  registers-now = ap (λ (r : Reply). r .registers) (store-answers m q accepted)
-
-  emptied-now : doneOf ((storeReply m q) .outcome) ≡ emptied (set (m .words) (q .index) (q .value)) (m .buffer)
-  unfolding doneOf storedWords written
-  emptied-now = ap (λ (r : Reply). doneOf (r .outcome)) (store-answers m q accepted)
-
-  ready-after : Ready (afterStore m q)
-  unfolding afterStore tablesFit
-  ready-after = record {
-    registers-fit = ap registersFit registers-now ∙ ready .registers-fit;
-    buffer-fits = ap bufferFits buffer-now ∙ swept-fits (set (m .words) (q .index) (q .value)) (m .buffer) ∙ ready .buffer-fits;
-    words-fit = ap tablesFit words-now ∙ ap lengthFits (length-set (m .words) (q .index) (q .value)) ∙ ready .words-fit;
-  }
-
 pub record SameEnd (s : State) (n : ℕ) (m : Machine) (total : ℕ) : Type 0 where
   pub same-buffer : s .buffer ≡ m .buffer
   pub same-words : s .words ≡ m .words
@@ -102,24 +69,24 @@ unfolding turns turn agedPuts afterStores emptiedIn Every afterStore
 as-stores s m ready b w [] inside = record { same-buffer = b; same-words = w; same-total = sym (add-zero (s .aged .emptied)) }
 as-stores s m ready b w (q ∷ qs) inside =
     rest (as-stores (turn s q) (afterStore m p) (ready-after m ready p (inside .0)) buffers words qs
-    (subst (λ (n : ℕ). AllInside n qs) (sym (ap length (words-now m ready p (inside .0)) ∙ length-set (m .words) (p .index) (p .value))) (inside .1)))
+    (subst (λ (n : ℕ). AllInside n qs) (sym (ap length (put-words m ready p (inside .0)) ∙ length-set (m .words) (p .index) (p .value))) (inside .1)))
   where
     p : Put
     p = record { index = q .index; value = aged (q .value) }
 
     words : set (s .words) (q .index) (aged (q .value)) ≡ wordsAfterStore m (record { index = q .index; value = aged (q .value) })
-    words = ap (λ (ws : List ℕ). set ws (q .index) (aged (q .value))) w ∙ sym (words-now m ready (record { index = q .index; value = aged (q .value) }) (inside .0))
+    words = ap (λ (ws : List ℕ). set ws (q .index) (aged (q .value))) w ∙ sym (put-words m ready (record { index = q .index; value = aged (q .value) }) (inside .0))
 
     buffers : swept (set (s .words) (q .index) (aged (q .value))) (s .buffer) ≡ bufferAfterStore m (record { index = q .index; value = aged (q .value) })
     buffers =
         ap₂ (λ (ws : List ℕ) (x : Buffer). swept (set ws (q .index) (aged (q .value))) x) w b
-        ∙ sym (buffer-now m ready (record { index = q .index; value = aged (q .value) }) (inside .0))
+        ∙ sym (put-buffer m ready (record { index = q .index; value = aged (q .value) }) (inside .0))
 
     number : emptied (set (s .words) (q .index) (aged (q .value))) (s .buffer)
         ≡ doneOf ((storeReply m (record { index = q .index; value = aged (q .value) })) .outcome)
     number =
         ap₂ (λ (ws : List ℕ) (x : Buffer). emptied (set ws (q .index) (aged (q .value))) x) w b
-        ∙ sym (emptied-now m ready (record { index = q .index; value = aged (q .value) }) (inside .0))
+        ∙ sym (put-emptied m ready (record { index = q .index; value = aged (q .value) }) (inside .0))
 
     rest : SameEnd (turns (turn s q) qs) (s .aged .emptied + emptied (set (s .words) (q .index) (aged (q .value))) (s .buffer))
         (afterStores (afterStore m p) (agedPuts qs)) (emptiedIn (afterStore m p) (agedPuts qs))

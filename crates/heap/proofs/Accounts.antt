@@ -33,7 +33,8 @@ use Rattle.heap.specs.declared.PoolReply.{PoolReply}
 use Rattle.heap.specs.declared.Mapped.{Mapped}
 use Rattle.heap.proofs.PoolLaws.{pool-in}
 use Rattle.heap.proofs.CallLaws.{Found, search-full, search-found, held-pfn}
-use Rattle.heap.proofs.MapLaws.{map-grounds, store-answers}
+use Rattle.heap.proofs.MapLaws.{map-grounds}
+use Rattle.store.proofs.Storing.{store-answers}
 use Rattle.heap.proofs.Marks.{Sound, mark-sound, mark-past, mark-frames, mark-this, mark-rest}
 
 -- from a pool to another by frames taken and frames given

@@ -9,7 +9,7 @@ use Rattle.heap.specs.declared.Pool.{Pool}
 use Rattle.heap.proofs.CallLaws.{take-gives, give-gives}
 use Rattle.heap.proofs.MapLaws.{map-gives}
 
-each-kept : (p : Pool) (q : Request) → Kept p (eventOf p q)
+pub each-kept : (p : Pool) (q : Request) → Kept p (eventOf p q)
 unfolding Kept eventOf
 each-kept p ToTake = take-gives p (takeReply p) refl
 each-kept p (ToGive pfn) = give-gives p pfn (giveReply p pfn) refl

@@ -17,6 +17,7 @@ use Rattle.store.specs.Rewrite.{Put, RewriteGives}
 use Rattle.store.specs.Sweep.{emptied}
 use Rattle.store.specs.TableStore.{storeRefusal, storedWords, storeReply, TableStoreGives}
 use Rattle.store.proofs.StoreLaws.{store-done}
+use Rattle.store.proofs.Storing.{store-answers}
 use Rattle.heap.specs.Bits.{heldAt, withHeld}
 use Rattle.heap.specs.Pools.{framesFit, poolFits, lowestFree}
 use Rattle.heap.specs.Take.{fullRefusal, takenPfn, takenPool}
@@ -42,12 +43,6 @@ map-grounds m p index z = by-test (eqb (storeRefusal m index) 0) refl (checked .
     by-test : (b : Bool) → eqb (storeRefusal m index) 0 ≡ b → cond b (fullRefusal p) (storeRefusal m index) ≡ 0 → Grounds m p index
     by-test true e h = record { pool-fits = checked .0; store-accepted = eqb-true (storeRefusal m index) 0 e; not-full = h }
     by-test false e h = absurd (eqb-false (storeRefusal m index) 0 e h)
-
--- an accepted store's reply
-pub store-answers : (m : Machine) (put : Put) → storeRefusal m (put .index) ≡ 0
-    → storeReply m put ≡ done (m .registers) (emptied (storedWords m put) (m .buffer))
-unfolding storeReply
-store-answers m put z = sym (when-accepted _ 0 (sym z) _ _ _ refl refl)
 
 module _ (m : Machine) (p : Pool) (index : ℕ) where
   -- the grounds, in their order; the pool fits where it is told so

@@ -7,3 +7,6 @@ pub mod OtherRoots
 pub mod FitsAgain
 pub mod Repeat
 pub mod Repeated
+pub mod StoresMade
+pub mod Backs
+pub mod Balance

@@ -31,7 +31,7 @@ unfoldable pub keptOf : List Put → List Put
 keptOf [] = []
 keptOf (q ∷ qs) = cond (leafValid (q .value)) (putAt (q .index) (aged (q .value)) ∷ keptOf qs) (keptOf qs)
 
-kept-append : (a b : List Put) → keptOf (a ++ b) ≡ keptOf a ++ keptOf b
+pub kept-append : (a b : List Put) → keptOf (a ++ b) ≡ keptOf a ++ keptOf b
 unfolding keptOf
 kept-append [] b = refl
 kept-append (q ∷ qs) b = rw (kept-append qs b) (go (leafValid (q .value)))
@@ -119,12 +119,22 @@ module _ (words : List ℕ) (first size id : ℕ) (known : id < 64) (root : lead
       ∙ tree-kept 512 (omega arith)
       ∙ ap (λ (b : Bool). keptOf (cond b (treeLeaves words first size d 512) [])) (sym root)
 
-aged-pfn : (w : ℕ) → leafValid w ≡ true → leafPfn (aged w) ≡ leafPfn w
+pub aged-pfn : (w : ℕ) → leafValid w ≡ true → leafPfn (aged w) ≡ leafPfn w
 unfolding aged
 aged-pfn w h = rw h (young-pfn w)
 
+pub given-append : (a b : List Put) → givenOf (a ++ b) ≡ givenOf a ++ givenOf b
+unfolding givenOf
+given-append [] b = refl
+given-append (q ∷ qs) b = rw (given-append qs b) (go (leafValid (q .value)))
+  where
+    go : (t : Bool) → cond t (givenOf qs ++ givenOf b) (leafPfn (q .value) ∷ (givenOf qs ++ givenOf b))
+        ≡ cond t (givenOf qs) (leafPfn (q .value) ∷ givenOf qs) ++ givenOf b
+    go true = refl
+    go false = refl
+
 -- each visited frame stays mapped or goes back
-parts : (pfn : ℕ) (ls : List Put) → times pfn (pfnsOf (keptOf ls)) + times pfn (givenOf ls) ≡ times pfn (pfnsOf ls)
+pub parts : (pfn : ℕ) (ls : List Put) → times pfn (pfnsOf (keptOf ls)) + times pfn (givenOf ls) ≡ times pfn (pfnsOf ls)
 unfolding pfnsOf keptOf givenOf times
 parts pfn [] = refl
 parts pfn (q ∷ qs) = go (leafValid (q .value)) refl (parts pfn qs)

@@ -2,3 +2,4 @@ pub mod Sweeps
 pub mod KeptLaws
 pub mod StoreLaws
 pub mod Scans
+pub mod Storing
