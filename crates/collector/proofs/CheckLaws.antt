@@ -8,10 +8,7 @@ use native.Mathlib.Numerals.{add-one}
 use native.Mathlib.Omega.{arith}
 use lib.ListN.{length, getD}
 use lib.Dec.{eqb}
-use borrow.Author.Tests.{not-true, not-false}
-use Rattle.runs.proofs.Bools.{and-both}
 use Rattle.registers.specs.Replies.{refusalOf}
-use Rattle.registers.specs.declared.Outcome.{Outcome}
 use Rattle.page_table.specs.Words.{number, leafPfn}
 use Rattle.page_table.specs.Stretches.{stretchSize, directoryWord}
 use Rattle.page_table.specs.Reads.{leadsOn}
@@ -162,7 +159,8 @@ one-later : (words : List ℕ) (first size d : ℕ) (p : Pool) (n : ℕ) → all
     → allGiven p (pfnsOf (treeLeaves words first size d (suc n))) ≡ false
 unfolding treeLeaves
 one-later words first size d p n h =
-    let part = cond (leadsOn (length words) 0 (directoryWord words d n)) (tableLeaves words first size (number (directoryWord words d n))) [] in
+    let part = cond (leadsOn (length words) 0 (directoryWord words d n))
+    (tableLeaves words first size (number (directoryWord words d n))) [] in
     ap (allGiven p) (pfns-append (treeLeaves words first size d n) part)
     ∙ all-append p (pfnsOf (treeLeaves words first size d n)) (pfnsOf part)
     ∙ ap (λ (x : Bool). x && allGiven (poolAfterGives p (pfnsOf (treeLeaves words first size d n))) (pfnsOf part)) h
@@ -171,7 +169,8 @@ not-later : (words : List ℕ) (first size d : ℕ) (p : Pool) (j : ℕ) → all
     → (n : ℕ) → allGiven p (pfnsOf (treeLeaves words first size d (j + n))) ≡ false
 not-later words first size d p j h zero = ap (λ (k : ℕ). allGiven p (pfnsOf (treeLeaves words first size d k))) (add-zero j) ∙ h
 not-later words first size d p j h (suc n) =
-    ap (λ (k : ℕ). allGiven p (pfnsOf (treeLeaves words first size d k))) (add-suc j n) ∙ one-later words first size d p (j + n) (not-later words first size d p j h n)
+    ap (λ (k : ℕ). allGiven p (pfnsOf (treeLeaves words first size d k))) (add-suc j n)
+    ∙ one-later words first size d p (j + n) (not-later words first size d p j h n)
 
 -- the same over the tables of a directory
 module _ (words : List ℕ) (first size d : ℕ) (p : Pool) where
@@ -222,7 +221,8 @@ module _ (words : List ℕ) (first size d : ℕ) (p : Pool) where
       tree-clear =
           ap (allGiven p) tree-more
           ∙ all-append p (pfnsOf (seen-tree j)) (pfnsOf (tableLeaves words first size t))
-          ∙ ap (λ (x : Bool). x && allGiven (poolAfterGives p (pfnsOf (seen-tree j))) (pfnsOf (tableLeaves words first size t))) (g .all-given)
+          ∙ ap (λ (x : Bool). x && allGiven (poolAfterGives p (pfnsOf (seen-tree j))) (pfnsOf (tableLeaves words first size t)))
+          (g .all-given)
           ∙ ap (λ (q : Pool). allGiven q (pfnsOf (tableLeaves words first size t))) (sym (g .left-is))
           ∙ sym (made .clear-is)
 

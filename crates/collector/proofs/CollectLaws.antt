@@ -1,23 +1,21 @@
 -- The ways through a pass, in the code's words. Assumes nothing.
 use Prim.Native.Nat.{ℕ, _+_, _*_, _≤_, _<_}
-use mathlib.Core.Path.{_≡_, refl, sym, ap, ap₂, _∙_, subst}
+use mathlib.Core.Path.{_≡_, refl, sym, ap, _∙_, subst}
 use mathlib.Core.Logic.{_≢_}
-use mathlib.Core.Bool.{Bool, true, false, cond, not, _&&_}
+use mathlib.Core.Bool.{Bool, true, false, not}
 use mathlib.Core.List.{List, [], map}
 use native.Mathlib.Omega.{arith}
 use lib.ListN.{length, getD, length-map}
 use lib.Dec.{leb}
 use borrow.Author.Tests.{not-true, not-false, leb-true}
-use Rattle.runs.proofs.Bools.{both, clash}
+use Rattle.runs.proofs.Bools.{both}
 use Rattle.registers.specs.Fields.{registersFit}
-use Rattle.registers.specs.Refusals.{refuseUnless, machineRefusal, byRefusal}
 use Rattle.registers.specs.Replies.{refusalOf, done}
 use Rattle.registers.specs.declared.Reply.{Reply}
 use Rattle.registers.proofs.RefusalLaws.{passed, machine-passed, when-accepted, when-refused, told-refusal}
-use Rattle.page_table.specs.Words.{present, number}
-use Rattle.page_table.specs.Stretches.{stretchSize, broken, tablesFit}
+use Rattle.page_table.specs.Words.{number}
+use Rattle.page_table.specs.Stretches.{stretchSize, tablesFit}
 use Rattle.page_table.specs.Reads.{leadsOn}
-use Rattle.page_table.proofs.Stretches.{fit-roots}
 use Rattle.reach.proofs.LinkLaws.{leads-fits}
 use Rattle.slots.specs.Buffer.{Buffer, bufferFits}
 use Rattle.store.specs.Machine.{Machine}

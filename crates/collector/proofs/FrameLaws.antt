@@ -1,27 +1,25 @@
 -- Frames can be given one after another exactly where none is mapped twice or unheld. Assumes nothing.
-use Prim.Native.Nat.{ℕ, zero, suc, _+_, _-_, _≤_, _<_}
+use Prim.Native.Nat.{ℕ, _+_, _-_, _≤_, _<_}
 use mathlib.Core.Path.{_≡_, refl, sym, ap, _∙_, subst}
-use mathlib.Core.Logic.{_⊎_, inl, inr, ⊎-elim}
-use mathlib.Core.Bool.{Bool, true, false, cond, not, _&&_, _||_}
-use mathlib.Core.List.{List, [], _∷_, _++_}
+use mathlib.Core.Bool.{Bool, true, false, not, _&&_, _||_}
+use mathlib.Core.List.{List, [], _∷_}
 use native.Mathlib.Omega.{arith}
-use lib.ListN.{length, getD}
-use lib.Dec.{eqb, leb, ltb}
-use borrow.Author.Tests.{eqb-true, eqb-false, eq-eqb, leb-true, leb-false, le-leb, ltb-true, not-true, not-false}
+use lib.Dec.{eqb, leb}
+use borrow.Author.Tests.{eqb-true, eq-eqb, leb-true, leb-false, le-leb, not-true}
 use Rattle.runs.specs.Bits.{bit}
 use Rattle.runs.specs.Counts.{any}
 use Rattle.runs.proofs.Bits.{bit-le}
 use Rattle.runs.proofs.Bools.{is-false, clash, both, and-both, same-test}
 use Rattle.runs.proofs.Counts.{any-at, any-from}
-use Rattle.registers.specs.Refusals.{refuseUnless, byRefusal}
+use Rattle.registers.specs.Refusals.{refuseUnless}
 use Rattle.registers.proofs.RefusalLaws.{passed, when-accepted}
 use Rattle.heap.specs.Bits.{heldAt}
-use Rattle.heap.specs.Pools.{poolFits, holds, heldFrames}
+use Rattle.heap.specs.Pools.{poolFits, holds}
 use Rattle.heap.specs.Give.{giveRefusal, givenPool, giveReply}
 use Rattle.heap.specs.Histories.{times}
 use Rattle.heap.specs.declared.Pool.{Pool}
 use Rattle.heap.specs.declared.PoolReply.{PoolReply}
-use Rattle.heap.proofs.PoolLaws.{holds-inside, holds-below, holds-past}
+use Rattle.heap.proofs.PoolLaws.{holds-inside}
 use Rattle.heap.proofs.Marks.{Sound}
 use Rattle.heap.proofs.Accounts.{Account, nothing, both-parts, frame-given}
 use Rattle.collector.specs.Frames.{mappedTwice, mappedUnheld, allGiven, poolAfterGives}
@@ -133,7 +131,8 @@ module _ (p : Pool) (sound : Sound p) (pfns : List ℕ)
           go true q c f = absurd (clash (any-from (λ k. leb 2 (times (p .first + k) pfns)) (p .size) (pfn - p .first) (inside pfn l .1)
               (subst (λ (n : ℕ). leb 2 (times n pfns) ≡ true) (sym at) q)) one)
           go false q true f = let m = leb-false 2 (times pfn pfns) q in omega arith
-          go false q false f = absurd (clash (any-from (λ k. leb 1 (times (p .first + k) pfns) && not (heldAt (p .bits) k)) (p .size) (pfn - p .first)
+          go false q false f = absurd (clash (any-from (λ k. leb 1 (times (p .first + k) pfns) && not (heldAt (p .bits) k)) (p .size)
+              (pfn - p .first)
               (inside pfn l .1)
               (and-both (subst (λ (n : ℕ). leb 1 (times n pfns) ≡ true) (sym at) (le-leb 1 (times pfn pfns) l))
               (ap not (sym (holds-inside p pfn (inside pfn l .0) (inside pfn l .1)) ∙ f)))) two)

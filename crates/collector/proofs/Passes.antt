@@ -1,9 +1,9 @@
 -- What the stores of a pass change: each visited leaf by itself, and no other word. Assumes nothing.
-use Prim.Native.Nat.{ℕ, zero, suc, _+_, _*_, _/_, _%_, _≤_, _<_}
+use Prim.Native.Nat.{ℕ, zero, suc, _+_, _*_, _/_, _≤_, _<_}
 use mathlib.Core.Path.{_≡_, refl, sym, ap, _∙_, subst}
 use mathlib.Core.Logic.{_⊎_, inl, inr, ⊎-elim}
-use mathlib.Core.Bool.{Bool, true, false, cond, not, _&&_}
-use mathlib.Core.List.{List, [], _∷_, _++_}
+use mathlib.Core.Bool.{Bool, true, false, cond}
+use mathlib.Core.List.{List, []}
 use native.Mathlib.Nat.{eq-or-lt-of-le, le-of-suc-le-suc, lt-suc-self}
 use native.Mathlib.Omega.{arith}
 use lib.ListN.{length, getD}
@@ -15,8 +15,8 @@ use Rattle.page_table.specs.Reads.{leadsOn}
 use Rattle.reach.proofs.LeafLaws.{leads-numbered}
 use Rattle.reach.proofs.LinkLaws.{leads-fits}
 use Rattle.store.specs.Rewrite.{Put, written}
-use Rattle.store.specs.Scan.{putsFrom}
-use Rattle.store.proofs.Scans.{Every, Elsewhere, elsewhere-both, written-append, written-length, written-other, scan-elsewhere, scan-at, scan-same}
+use Rattle.store.proofs.Scans.{Every, Elsewhere, elsewhere-both, written-append, written-length, written-other, scan-elsewhere, scan-at}
+use Rattle.store.proofs.Scans.{scan-same}
 use Rattle.collector.specs.Visits.{isVisited, aged, tableLeaves, treeLeaves, passLeaves, agedPuts, passWords}
 use Rattle.collector.proofs.Puts.{tablePuts, treePuts, aged-tree}
 use Rattle.trees.proofs.Apart.{Apart}
@@ -83,7 +83,8 @@ module _ (words : List ℕ) (first size : ℕ) where
 
       -- so that the leaves of the next table are the same, judged by the words of that moment or by those that came in
       pub leaves-as-came : (n : ℕ) → n < 512 → leads n ≡ true
-          → tableLeaves (written (treePuts words first size d n) words) first size (number (word n)) ≡ tableLeaves words first size (number (word n))
+          → tableLeaves (written (treePuts words first size d n) words) first size (number (word n))
+          ≡ tableLeaves words first size (number (word n))
       unfolding tableLeaves
       leaves-as-came n l h =
           let now : List ℕ = written (treePuts words first size d n) words in
@@ -118,9 +119,12 @@ module _ (words : List ℕ) (first size : ℕ) where
 
           last : leads n ≡ true → Goal n
           last t =
-              ap (λ (b : Bool). getD (written (cond b (tablePuts words first size (number (word n))) []) before) (1024 * number (word n) + k) 0) t
-              ∙ scan-at (λ i. isVisited first size (getD words i 0)) (λ i. aged (getD words i 0)) (1024 * number (word n)) before 1024 k kl (fits t)
-              ∙ ap (cond (isVisited first size (getD words (1024 * number (word n) + k) 0)) (aged (getD words (1024 * number (word n) + k) 0)))
+              ap (λ (b : Bool). getD (written (cond b (tablePuts words first size (number (word n))) []) before)
+              (1024 * number (word n) + k) 0) t
+              ∙ scan-at (λ i. isVisited first size (getD words i 0)) (λ i. aged (getD words i 0))
+              (1024 * number (word n)) before 1024 k kl (fits t)
+              ∙ ap (cond (isVisited first size (getD words (1024 * number (word n) + k) 0))
+              (aged (getD words (1024 * number (word n) + k) 0)))
               (table-untouched n k (omega arith) t kl)
 
           here : j ≡ n → Goal j

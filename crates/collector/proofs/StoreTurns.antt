@@ -1,26 +1,18 @@
 -- A pass's turns are table stores one after another, and gives. Assumes nothing.
-use Prim.Native.Nat.{ℕ, _+_, _≤_, _<_}
+use Prim.Native.Nat.{ℕ, _+_, _<_}
 use mathlib.Core.Path.{_≡_, refl, sym, ap, ap₂, _∙_, subst}
 use mathlib.Core.Bool.{Bool, true, false, cond, not}
 use mathlib.Core.List.{List, [], _∷_}
 use native.Mathlib.Nat.{add-zero, add-assoc}
 use native.Mathlib.Omega.{arith}
 use lib.ListN.{length, set, length-set}
-use lib.Dec.{ltb}
-use borrow.Author.Tests.{lt-ltb}
 use Rattle.runs.specs.Bits.{bit}
-use Rattle.registers.specs.Fields.{registersFit}
-use Rattle.registers.specs.Refusals.{refuseUnless, byRefusal}
-use Rattle.registers.specs.declared.Reply.{Reply}
-use Rattle.registers.proofs.RefusalLaws.{when-accepted}
 use Rattle.page_table.specs.Words.{leafValid, leafPfn}
-use Rattle.page_table.specs.Stretches.{tablesFit, lengthFits}
-use Rattle.slots.specs.Buffer.{Buffer, bufferFits}
+use Rattle.slots.specs.Buffer.{Buffer}
 use Rattle.store.specs.Machine.{Machine}
-use Rattle.store.specs.Rewrite.{Put, written}
+use Rattle.store.specs.Rewrite.{Put}
 use Rattle.store.specs.Sweep.{swept, emptied}
-use Rattle.store.specs.TableStore.{indexFits, storeRefusal, storedWords, storeReply, bufferAfterStore, wordsAfterStore}
-use Rattle.store.proofs.Sweeps.{swept-fits}
+use Rattle.store.specs.TableStore.{storeReply, bufferAfterStore, wordsAfterStore}
 use Rattle.store.proofs.Scans.{Every}
 use Rattle.store.proofs.Storing.{Ready, put-buffer, put-words, put-emptied, ready-after}
 use Rattle.heap.specs.Give.{giveReply}
@@ -69,15 +61,18 @@ unfolding turns turn agedPuts afterStores emptiedIn Every afterStore
 as-stores s m ready b w [] inside = record { same-buffer = b; same-words = w; same-total = sym (add-zero (s .aged .emptied)) }
 as-stores s m ready b w (q ∷ qs) inside =
     rest (as-stores (turn s q) (afterStore m p) (ready-after m ready p (inside .0)) buffers words qs
-    (subst (λ (n : ℕ). AllInside n qs) (sym (ap length (put-words m ready p (inside .0)) ∙ length-set (m .words) (p .index) (p .value))) (inside .1)))
+    (subst (λ (n : ℕ). AllInside n qs) (sym (ap length (put-words m ready p (inside .0)) ∙ length-set (m .words) (p .index) (p .value)))
+    (inside .1)))
   where
     p : Put
     p = record { index = q .index; value = aged (q .value) }
 
     words : set (s .words) (q .index) (aged (q .value)) ≡ wordsAfterStore m (record { index = q .index; value = aged (q .value) })
-    words = ap (λ (ws : List ℕ). set ws (q .index) (aged (q .value))) w ∙ sym (put-words m ready (record { index = q .index; value = aged (q .value) }) (inside .0))
+    words = ap (λ (ws : List ℕ). set ws (q .index) (aged (q .value))) w
+        ∙ sym (put-words m ready (record { index = q .index; value = aged (q .value) }) (inside .0))
 
-    buffers : swept (set (s .words) (q .index) (aged (q .value))) (s .buffer) ≡ bufferAfterStore m (record { index = q .index; value = aged (q .value) })
+    buffers : swept (set (s .words) (q .index) (aged (q .value))) (s .buffer)
+        ≡ bufferAfterStore m (record { index = q .index; value = aged (q .value) })
     buffers =
         ap₂ (λ (ws : List ℕ) (x : Buffer). swept (set ws (q .index) (aged (q .value))) x) w b
         ∙ sym (put-buffer m ready (record { index = q .index; value = aged (q .value) }) (inside .0))

@@ -1,8 +1,8 @@
 -- The tables of a directory one after another, in the code's words. Assumes nothing.
-use Prim.Native.Nat.{ℕ, zero, suc, _+_, _-_, _*_, _≤_, _<_}
+use Prim.Native.Nat.{ℕ, zero, suc, _+_, _*_, _≤_, _<_}
 use mathlib.Core.Path.{_≡_, refl, sym, ap, ap₂, _∙_, subst}
 use mathlib.Core.Bool.{Bool, true, false, cond}
-use mathlib.Core.List.{List, [], _∷_, _++_, append-nil}
+use mathlib.Core.List.{List, [], _++_, append-nil}
 use native.Mathlib.Numerals.{add-one}
 use native.Mathlib.Omega.{arith}
 use lib.ListN.{length, getD, length-append}
@@ -11,13 +11,13 @@ use Rattle.page_table.specs.Words.{number}
 use Rattle.page_table.specs.Stretches.{stretchSize, directoryWord}
 use Rattle.page_table.specs.Reads.{leadsOn}
 use Rattle.reach.proofs.LinkLaws.{leads-fits}
-use Rattle.slots.specs.Buffer.{Buffer, bufferFits}
+use Rattle.slots.specs.Buffer.{bufferFits}
 use Rattle.store.specs.Rewrite.{Put, written}
 use Rattle.store.proofs.Scans.{written-length, scan-length}
 use Rattle.trees.specs.Trees.{apart}
-use Rattle.collector.specs.Visits.{isVisited, agedPuts, tableLeaves, treeLeaves}
-use Rattle.collector.specs.Turns.{State, turn, turns}
-use Rattle.trees.proofs.Apart.{Apart, apart-told}
+use Rattle.collector.specs.Visits.{isVisited, tableLeaves, treeLeaves}
+use Rattle.collector.specs.Turns.{State, turns}
+use Rattle.trees.proofs.Apart.{apart-told}
 use Rattle.collector.proofs.Puts.{treePuts, aged-tree}
 use Rattle.collector.proofs.Passes.{word-untouched, leaves-as-came}
 use Rattle.collector.proofs.TurnLaws.{turns-append, turns-words, turns-fit, turns-given, turns-emptied}
@@ -37,7 +37,8 @@ tree-length words first size d zero = omega arith
 tree-length words first size d (suc n) = go (leadsOn (length words) 0 (directoryWord words d n)) (tree-length words first size d n)
   where
     go : (b : Bool) → length (treeLeaves words first size d n) ≤ 1024 * n
-        → length (treeLeaves words first size d n ++ cond b (tableLeaves words first size (number (directoryWord words d n))) []) ≤ 1024 * suc n
+        → length (treeLeaves words first size d n ++ cond b (tableLeaves words first size
+        (number (directoryWord words d n))) []) ≤ 1024 * suc n
     go true ih =
         omega (
           arith,
@@ -74,11 +75,24 @@ module _ (first size d : ℕ) (s : State) where
     climbing-fits = ap (λ (x : State). bufferFits (x .buffer)) (g .now-is) ∙ turns-fit s (seen j)
 
     pub climbing-given : now .aged .given ≤ s .aged .given + 524288
-    climbing-given = omega (arith, ap (λ (x : State). x .aged .given) (g .now-is), turns-given s (seen j), tree-length (s .words) first size d j, g .some)
+    climbing-given = omega (
+      arith,
+      ap (λ (x : State). x .aged .given) (g .now-is),
+      turns-given s (seen j),
+      tree-length
+          (s .words) first size d j,
+      g .some,
+    )
 
     pub climbing-emptied : now .aged .emptied ≤ s .aged .emptied + 33554432
     climbing-emptied =
-        omega (arith, ap (λ (x : State). x .aged .emptied) (g .now-is), turns-emptied s (seen j), tree-length (s .words) first size d j, g .some)
+        omega (
+          arith,
+          ap (λ (x : State). x .aged .emptied) (g .now-is),
+          turns-emptied s (seen j),
+          tree-length (s .words) first size d j,
+          g .some,
+        )
 
     module _ (id : ℕ) (ok : apart (s .words) id d ≡ true) (l : j < 512) (w : ℕ) (wq : w ≡ directoryWord (now .words) d j)
         (b : Bool) (bq : b ≡ leadsOn (length (now .words)) 0 w) where
@@ -92,7 +106,8 @@ module _ (first size d : ℕ) (s : State) where
 
       pub climbing-table : b ≡ true → (t : ℕ) → t ≡ number w → 1024 * t + 1024 ≤ length (now .words)
       unfolding stretchSize
-      climbing-table h t e = subst (λ (n : ℕ). 1024 * n + 1024 ≤ length (now .words)) (sym e) (leads-fits (length (now .words)) 0 w (sym bq ∙ h))
+      climbing-table h t e = subst (λ (n : ℕ). 1024 * n + 1024 ≤ length (now .words)) (sym e)
+          (leads-fits (length (now .words)) 0 w (sym bq ∙ h))
 
       pub climbing-on : b ≡ true → (t : ℕ) → t ≡ number w → (next : State) → next ≡ turns now (tableLeaves (now .words) first size t)
           → Climbing next (j + 1)
@@ -103,7 +118,8 @@ module _ (first size d : ℕ) (s : State) where
             q
             ∙ ap₂ turns (g .now-is) puts-same
             ∙ sym (turns-append s (seen j) (tableLeaves (s .words) first size (number (word j))))
-            ∙ ap (λ (x : Bool). turns s (seen j ++ cond x (tableLeaves (s .words) first size (number (word j))) [])) (sym (sym leads-is ∙ h))
+            ∙ ap (λ (x : Bool). turns s (seen j ++ cond x (tableLeaves (s .words) first size (number (word j))) []))
+            (sym (sym leads-is ∙ h))
             ∙ ap (λ (n : ℕ). turns s (seen n)) (sym (add-one j));
       }
         where
@@ -119,7 +135,8 @@ module _ (first size d : ℕ) (s : State) where
         now-is =
             g .now-is
             ∙ ap (turns s) (sym (append-nil (seen j)))
-            ∙ ap (λ (x : Bool). turns s (seen j ++ cond x (tableLeaves (s .words) first size (number (word j))) [])) (sym (sym leads-is ∙ h))
+            ∙ ap (λ (x : Bool). turns s (seen j ++ cond x (tableLeaves (s .words) first size (number (word j))) []))
+            (sym (sym leads-is ∙ h))
             ∙ ap (λ (n : ℕ). turns s (seen n)) (sym (add-one j));
       }
 

@@ -1,31 +1,26 @@
 -- One visited leaf, and the leaves of a table one after another, in the code's words. Assumes nothing.
-use Prim.Native.Nat.{ℕ, zero, suc, _+_, _-_, _*_, _/_, _%_, _^_, _≤_, _<_}
-use mathlib.Core.Path.{_≡_, refl, sym, ap, ap₂, _∙_, subst}
-use mathlib.Core.Logic.{_⊎_, inl, inr}
-use mathlib.Core.Bool.{Bool, true, false, cond, not, _&&_}
+use Prim.Native.Nat.{ℕ, _+_, _*_, _≤_, _<_}
+use mathlib.Core.Path.{_≡_, refl, sym, ap, ap₂, _∙_}
+use mathlib.Core.Logic.{inr}
+use mathlib.Core.Bool.{Bool, true, false, cond, not}
 use mathlib.Core.List.{List, [], _∷_, _++_, append-nil}
 use native.Mathlib.Nat.{add-zero}
 use native.Mathlib.Numerals.{add-one}
 use native.Mathlib.Omega.{arith}
-use lib.ListN.{length, getD, set, length-set}
-use lib.Dec.{eqb, leb, ltb}
-use borrow.Author.Tests.{eqb-true}
-use Rattle.runs.specs.Bits.{flag, bit, withFlag}
-use Rattle.runs.specs.Counts.{count}
+use lib.ListN.{length, getD, set}
+use Rattle.runs.specs.Bits.{bit}
 use Rattle.runs.proofs.Bits.{bit-le}
-use Rattle.runs.proofs.Bools.{both}
 use Rattle.runs.proofs.Counts.{count-le}
-use Rattle.page_table.specs.Words.{present, leafValid, leafPfn}
+use Rattle.page_table.specs.Words.{leafValid, leafPfn}
 use Rattle.slots.specs.Buffer.{Buffer, bufferFits}
 use Rattle.store.specs.Rewrite.{Put, written, RewriteGives}
 use Rattle.store.specs.Sweep.{swept, emptied, keptAt}
 use Rattle.store.proofs.Sweeps.{swept-fits}
 use Rattle.heap.specs.Give.{giveReply, GiveGives}
-use Rattle.heap.specs.declared.Pool.{Pool}
 use Rattle.heap.specs.declared.PoolReply.{PoolReply}
 use Rattle.store.specs.Scan.{putAt, putsFrom}
 use Rattle.store.proofs.Scans.{written-length, written-other, scan-elsewhere, scan-length}
-use Rattle.collector.specs.Visits.{inPool, isVisited, aged, agedPuts, tableLeaves}
+use Rattle.collector.specs.Visits.{isVisited, aged, agedPuts, tableLeaves}
 use Rattle.collector.specs.Turns.{State, poolAfter, turn, turns}
 use Rattle.collector.proofs.Puts.{aged-scan}
 use Rattle.collector.specs.declared.Aged.{Aged}
@@ -61,7 +56,12 @@ module _ (b after : Buffer) (words now : List ℕ) (index word value n : ℕ) (b
   valid-is = ap leafValid (sym wq) ∙ sym t
 
   pub turn-valid : valid ≡ true
-      → _≡_ {A = State} (record { buffer = after; words = now; aged = record { given = begun .given; emptied = begun .emptied + n; pool = begun .pool } })
+      → _≡_ {A = State} (record {
+        buffer = after;
+        words = now;
+        aged =
+            record { given = begun .given; emptied = begun .emptied + n; pool = begun .pool };
+      })
       (turn (record { buffer = b; words = words; aged = begun }) (record { index = index; value = getD words index 0 }))
   unfolding turn poolAfter
   turn-valid h =
@@ -71,12 +71,18 @@ module _ (b after : Buffer) (words now : List ℕ) (index word value n : ℕ) (b
         aged = record {
           given = (sym (ap (λ (x : Bool). begun .given + bit (not x)) (valid-is ∙ h) ∙ add-zero (begun .given))) j;
           emptied = begun .emptied + number-is j;
-          pool = (sym (ap (λ (x : Bool). cond x (begun .pool) ((giveReply (begun .pool) (leafPfn (getD words index 0))) .pool)) (valid-is ∙ h))) j;
+          pool = (sym (ap (λ (x : Bool). cond x (begun .pool) ((giveReply (begun .pool) (leafPfn (getD words index 0))) .pool))
+              (valid-is ∙ h))) j;
         };
       }
 
   pub turn-old : valid ≡ false → (pfn : ℕ) (reply : PoolReply) → pfn ≡ leafPfn word → GiveGives (begun .pool) pfn reply
-      → _≡_ {A = State} (record { buffer = after; words = now; aged = record { given = begun .given + 1; emptied = begun .emptied + n; pool = reply .pool } })
+      → _≡_ {A = State} (record {
+        buffer = after;
+        words = now;
+        aged =
+            record { given = begun .given + 1; emptied = begun .emptied + n; pool = reply .pool };
+      })
       (turn (record { buffer = b; words = words; aged = begun }) (record { index = index; value = getD words index 0 }))
   unfolding turn poolAfter
   turn-old h pfn reply pq g =
@@ -90,7 +96,8 @@ module _ (b after : Buffer) (words now : List ℕ) (index word value n : ℕ) (b
         };
       }
     where
-      pool-is : reply .pool ≡ cond (leafValid (getD words index 0)) (begun .pool) ((giveReply (begun .pool) (leafPfn (getD words index 0))) .pool)
+      pool-is : reply .pool ≡ cond (leafValid (getD words index 0)) (begun .pool)
+          ((giveReply (begun .pool) (leafPfn (getD words index 0))) .pool)
       pool-is =
           ap (λ (x : PoolReply). x .pool) (g .reply-is)
           ∙ ap (λ (k : ℕ). (giveReply (begun .pool) k) .pool) (pq ∙ ap leafPfn wq)
@@ -148,7 +155,8 @@ module _ (first size t : ℕ) (s : State) where
   module _ (now : State) (k : ℕ) (g : Going now k) where
     pub going-length : length (now .words) ≡ length (s .words)
     going-length =
-        ap (λ (x : State). length (x .words)) (g .now-is) ∙ ap length (turns-words s (seen k)) ∙ written-length (agedPuts (seen k)) (s .words)
+        ap (λ (x : State). length (x .words)) (g .now-is) ∙ ap length (turns-words s (seen k))
+        ∙ written-length (agedPuts (seen k)) (s .words)
 
     pub going-fits : bufferFits (now .buffer) ≡ bufferFits (s .buffer)
     going-fits = ap (λ (x : State). bufferFits (x .buffer)) (g .now-is) ∙ turns-fit s (seen k)
@@ -172,8 +180,10 @@ module _ (first size t : ℕ) (s : State) where
     going-emptied = omega (arith, ap (λ (x : State). x .aged .emptied) (g .now-is), turns-emptied s (seen k), seen-le, g .some)
 
     -- a turn of the loop, at a word that is visited and at one that is not
-    pub going-visit : k < 1024 → (word : ℕ) (b : Bool) → word ≡ getD (now .words) (1024 * t + k) 0 → b ≡ isVisited first size word → b ≡ true
-        → (next : State) → next ≡ turn now (record { index = 1024 * t + k; value = getD (now .words) (1024 * t + k) 0 }) → Going next (k + 1)
+    pub going-visit : k < 1024 → (word : ℕ) (b : Bool) → word ≡ getD (now .words) (1024 * t + k) 0 → b ≡ isVisited first size word → b
+        ≡ true
+        → (next : State) → next ≡ turn now (record { index = 1024 * t + k; value = getD (now .words) (1024 * t + k) 0 })
+        → Going next (k + 1)
     unfolding putsFrom turns
     going-visit l word b wq bq h next q = record {
       some = omega arith;
@@ -188,7 +198,8 @@ module _ (first size t : ℕ) (s : State) where
         here : visit (1024 * t + k) ≡ true
         here = ap (isVisited first size) (sym going-word ∙ sym wq) ∙ sym bq ∙ h
 
-    pub going-skip : k < 1024 → (word : ℕ) (b : Bool) → word ≡ getD (now .words) (1024 * t + k) 0 → b ≡ isVisited first size word → b ≡ false
+    pub going-skip : k < 1024 → (word : ℕ) (b : Bool) → word ≡ getD (now .words) (1024 * t + k) 0 → b ≡ isVisited first size word → b
+        ≡ false
         → Going now (k + 1)
     unfolding putsFrom turns
     going-skip l word b wq bq h = record {

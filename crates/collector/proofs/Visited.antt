@@ -1,9 +1,8 @@
 -- What every leaf that a pass visits has. Assumes nothing.
 use Prim.Native.Nat.{ℕ, zero, suc, _+_, _-_, _*_, _≤_, _<_}
-use mathlib.Core.Path.{_≡_, refl, sym, ap, _∙_, subst}
-use mathlib.Core.Bool.{Bool, true, false, cond, _&&_}
-use mathlib.Core.List.{List, [], _∷_, _++_}
-use native.Mathlib.Nat.{lt-suc-self}
+use mathlib.Core.Path.{_≡_, refl, subst}
+use mathlib.Core.Bool.{Bool, true, false, cond}
+use mathlib.Core.List.{List, [], _∷_}
 use native.Mathlib.Omega.{arith}
 use lib.ListN.{length, getD}
 use lib.Dec.{eqb, leb, ltb}
@@ -37,7 +36,8 @@ module _ (words : List ℕ) (first size : ℕ) (P : Put → Type 0)
   tree-every : (d n : ℕ) → Every P (treeLeaves words first size d n)
   unfolding Every treeLeaves
   tree-every d zero = tt
-  tree-every d (suc n) = every-both P (treeLeaves words first size d n) _ (tree-every d n) (go (leadsOn (length words) 0 (directoryWord words d n)) refl)
+  tree-every d (suc n) = every-both P (treeLeaves words first size d n) _ (tree-every d n)
+      (go (leadsOn (length words) 0 (directoryWord words d n)) refl)
     where
       go : (b : Bool) → leadsOn (length words) 0 (directoryWord words d n) ≡ b
           → Every P (cond b (tableLeaves words first size (number (directoryWord words d n))) [])

@@ -15,7 +15,7 @@ use Rattle.slots.specs.Buffer.{Buffer}
 use Rattle.store.specs.Machine.{Machine}
 use Rattle.store.specs.Rewrite.{Put, RewriteGives}
 use Rattle.store.specs.Sweep.{emptied}
-use Rattle.store.specs.TableStore.{storeRefusal, storedWords, storeReply, TableStoreGives}
+use Rattle.store.specs.TableStore.{storeRefusal, TableStoreGives}
 use Rattle.store.proofs.StoreLaws.{store-done}
 use Rattle.store.proofs.Storing.{store-answers}
 use Rattle.heap.specs.Bits.{heldAt, withHeld}

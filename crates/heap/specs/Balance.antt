@@ -46,7 +46,8 @@ pub record Balanced (first size : ℕ) (taken given : List ℕ) (p : Pool) : Typ
 unfoldable pub Balance : Type 0
 Balance =
     (first size : ℕ) (reply : PoolReply) → NewPoolGives first size reply → newRefusal first size ≡ 0
-    → (history : List Event) → KeptThroughout (reply .pool) history → Balanced first size (takenIn history) (givenIn history) (lastPool (reply .pool) history)
+    → (history : List Event) → KeptThroughout (reply .pool) history
+    → Balanced first size (takenIn history) (givenIn history) (lastPool (reply .pool) history)
 
 -- two live takes never answer the same frame: between two takes or mappings that answer it, it is given
 unfoldable pub NeverTwiceLive : Type 0

@@ -1,5 +1,5 @@
 -- The way of a tree's walk to its leaf. Assumes nothing.
-use Prim.Native.Nat.{ℕ, zero, suc, _+_, _*_, _/_, _%_, _≤_, _<_}
+use Prim.Native.Nat.{ℕ, suc, _+_, _*_, _/_, _%_}
 use mathlib.Core.Path.{_≡_, refl, sym, ap, _∙_, subst}
 use mathlib.Core.Bool.{Bool, true, false, cond, not, _&&_}
 use mathlib.Core.List.{List}
@@ -42,7 +42,8 @@ module _ (words : List ℕ) (vpn : ℕ) (global : Bool) where
       go true false e = (refl, e)
       go false b e = absurd (clash refl (sym (ap isLeaf e)))
 
-  way-end : (at : ℕ) (f : Found) → descend words vpn global 0 at ≡ Leaf f → (present (getD words at 0) ≡ true) × (leafAt words global at ≡ f)
+  way-end : (at : ℕ) (f : Found) → descend words vpn global 0 at ≡ Leaf f
+      → (present (getD words at 0) ≡ true) × (leafAt words global at ≡ f)
   unfolding descend isLeaf leafOr
   way-end at f h = go (present (getD words at 0)) h
     where
@@ -105,5 +106,6 @@ unfolding walkTree indexBelow stretchSize indexIn directoryWord
 way-absent words id vpn root word none =
     goes-down words vpn false 1 id root ∙ goes-down words vpn false 0 (512 * number (getD words id 0) + vpn / 1024) word ∙ ends
   where
-    ends : descend words vpn false 0 (1024 * number (getD words (512 * number (getD words id 0) + vpn / 1024) 0) + vpn % 1024) ≡ Absent (stopAt false 0)
+    ends : descend words vpn false 0 (1024 * number (getD words (512 * number (getD words id 0) + vpn / 1024) 0) + vpn % 1024)
+        ≡ Absent (stopAt false 0)
     ends = ends-absent words vpn (1024 * number (getD words (512 * number (getD words id 0) + vpn / 1024) 0) + vpn % 1024) none

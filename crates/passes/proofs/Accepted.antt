@@ -1,8 +1,7 @@
 -- What an accepted pass was handed, and the words that it leaves. Assumes nothing.
 use Prim.Native.Nat.{ℕ}
-use mathlib.Core.Path.{_≡_, refl, sym, ap, _∙_}
+use mathlib.Core.Path.{_≡_, refl, sym, _∙_}
 use mathlib.Core.List.{List}
-use Rattle.registers.specs.Refusals.{byRefusal}
 use Rattle.registers.proofs.RefusalLaws.{when-accepted}
 use Rattle.slots.specs.Buffer.{Buffer}
 use Rattle.store.specs.Machine.{Machine}
@@ -11,7 +10,7 @@ use Rattle.store.specs.Stores.{afterStores, emptiedIn}
 use Rattle.heap.specs.declared.Pool.{Pool}
 use Rattle.collector.specs.Visits.{passLeaves, agedPuts, passWords}
 use Rattle.collector.specs.Turns.{State, atFirst, turns}
-use Rattle.collector.specs.Collect.{visitedBy, storesOf, collectAnswer, bufferAfterCollect, wordsAfterCollect}
+use Rattle.collector.specs.Collect.{visitedBy, storesOf, wordsAfterCollect}
 use Rattle.collector.specs.declared.Collected.{Collected}
 use Rattle.collector.proofs.TurnLaws.{turns-words}
 use Rattle.collector.proofs.StoreTurns.{SameEnd, as-stores}

@@ -1,12 +1,11 @@
 -- The frame of a visited leaf goes back exactly where the leaf was not valid. Assumes nothing.
 use Prim.Native.Nat.{ℕ, zero, suc, _+_, _≤_, _<_}
-use mathlib.Core.Path.{_≡_, refl, sym, ap, _∙_, subst}
-use mathlib.Core.Logic.{_⊎_, inl, inr, ⊎-elim}
-use mathlib.Core.Bool.{Bool, true, false, cond, not}
+use mathlib.Core.Path.{_≡_, refl, sym, ap, _∙_}
+use mathlib.Core.Logic.{⊎-elim}
+use mathlib.Core.Bool.{Bool, true, false, cond}
 use mathlib.Core.List.{List, [], _∷_, _++_}
 use native.Mathlib.Nat.{eq-or-lt-of-le, le-of-suc-le-suc, zero-add}
 use native.Mathlib.Omega.{arith}
-use lib.ListN.{length}
 use lib.Dec.{eqb}
 use borrow.Author.Tests.{eq-eqb}
 use Rattle.runs.specs.Bits.{bit}
@@ -14,7 +13,6 @@ use Rattle.runs.proofs.Bits.{bit-le}
 use Rattle.page_table.specs.Words.{leafValid, leafPfn}
 use Rattle.page_table.specs.Walk.{walkTree}
 use Rattle.page_table.specs.declared.Found.{Found}
-use Rattle.page_table.specs.declared.Walk.{Walk}
 use Rattle.page_table.specs.declared.Walk.the-variants.{Leaf}
 use Rattle.store.specs.Rewrite.{Put}
 use Rattle.store.specs.Scan.{putAt}
@@ -23,8 +21,7 @@ use Rattle.heap.specs.Histories.{times}
 use Rattle.heap.specs.declared.Pool.{Pool}
 use Rattle.heap.proofs.Accounts.{Account, times-append}
 use Rattle.collector.specs.Visits.{inPool, aged, passLeaves}
-use Rattle.collector.specs.Frames.{pfnsOf, givenOf, allGiven}
-use Rattle.collector.specs.declared.Collected.{Collected}
+use Rattle.collector.specs.Frames.{pfnsOf, givenOf}
 use Rattle.collector.proofs.CheckLaws.{pfns-append}
 use Rattle.collector.proofs.FrameLaws.{all-within}
 use Rattle.passes.specs.Pages.{pageLeaf, pageLeaves, VisitsPages}
@@ -123,7 +120,8 @@ frame-goes-back m p id answer buffer-after words-after whole pass vpn f page fou
     sum = parts (leafPfn (f .word)) (passLeaves (m .words) (p .first) (p .size) id)
 
     frame : bit (holds p (leafPfn (f .word)))
-        ≡ times (leafPfn (f .word)) (givenOf (passLeaves (m .words) (p .first) (p .size) id)) + bit (holds (answer .pool) (leafPfn (f .word)))
+        ≡ times (leafPfn (f .word)) (givenOf (passLeaves (m .words) (p .first) (p .size) id)) + bit
+        (holds (answer .pool) (leafPfn (f .word)))
     frame = frame-of (pass-account m p id answer buffer-after words-after whole pass) (leafPfn (f .word))
 
     by-valid : (b : Bool) → leafValid (f .word) ≡ b

@@ -1,18 +1,16 @@
 -- The balance over histories with passes, and that no frame is live twice. Assumes nothing.
-use Prim.Native.Nat.{ℕ, _+_, _≤_}
+use Prim.Native.Nat.{ℕ}
 use mathlib.Core.Path.{_≡_, refl, sym, ap, ap₂, _∙_, subst}
 use mathlib.Core.Logic.{⊎-elim}
 use mathlib.Core.List.{List, [], _∷_, _++_}
 use native.Mathlib.Omega.{arith}
 use lib.ListN.{length}
 use Rattle.runs.specs.Bits.{bit}
-use Rattle.registers.specs.Refusals.{byRefusal}
 use Rattle.registers.proofs.RefusalLaws.{by-number}
 use Rattle.slots.specs.Buffer.{Buffer}
 use Rattle.store.specs.Machine.{Machine}
 use Rattle.heap.specs.Pools.{holds}
-use Rattle.heap.specs.Histories as heap
-use Rattle.heap.specs.Histories.{ifDone, times}
+use Rattle.heap.specs.Histories.{ifDone}
 use Rattle.heap.specs.declared.Pool.{Pool}
 use Rattle.heap.proofs.Marks.{Sound}
 use Rattle.heap.proofs.Accounts as accounts
@@ -24,7 +22,6 @@ use Rattle.collector.specs.Frames.{givenOf}
 use Rattle.collector.specs.Collect.{collectRefusal, refusedCollect, collectAnswer, CollectGives}
 use Rattle.collector.specs.declared.Collected.{Collected}
 use Rattle.collector.proofs.CollectLaws.{collect-gives}
-use Rattle.passes.specs.Gone.{Pass}
 use Rattle.passes.specs.Histories.{Event, Kept, poolLeft, KeptThroughout, lastPool, takenBy, givenBy, takenIn, givenIn}
 use Rattle.passes.specs.Histories.{BalanceWithPasses, NeverTwiceLive, Request, eventOf, historyOf, EveryHistory}
 use Rattle.passes.specs.Histories.Event.{OfPool, OfPass}
@@ -42,7 +39,8 @@ pass-owes p sound m id answer buffer-after words-after made =
     (λ accepted.
     let a = pass-account m p id answer buffer-after words-after (sound .all-words) (record { made = made; accepted = accepted .0 }) in
     subst (Account p (answer .pool) [])
-    (sym (ap (λ (x : Collected). ifDone (x .reply .outcome) (givenOf (passLeaves (m .words) (answer .pool .first) (answer .pool .size) id))) (accepted .1)
+    (sym (ap (λ (x : Collected). ifDone (x .reply .outcome) (givenOf
+    (passLeaves (m .words) (answer .pool .first) (answer .pool .size) id))) (accepted .1)
     ∙ ap₂ (λ (x y : ℕ). givenOf (passLeaves (m .words) x y id)) (a .first-same) (a .size-same))) a)
     (λ (refused : answer ≡ refusedCollect (m .registers) (collectRefusal m p id) p).
     subst (λ (x : Collected). Account p (x .pool) []
@@ -54,7 +52,7 @@ unfolding Kept poolLeft takenBy givenBy
 account-of p sound (OfPool e) kept = accounts.account-of p sound e kept
 account-of p sound (OfPass m id answer buffer-after words-after) kept = pass-owes p sound m id answer buffer-after words-after kept
 
-account : (p : Pool) → Sound p → (es : List Event) → KeptThroughout p es → Account p (lastPool p es) (takenIn es) (givenIn es)
+pub account : (p : Pool) → Sound p → (es : List Event) → KeptThroughout p es → Account p (lastPool p es) (takenIn es) (givenIn es)
 unfolding KeptThroughout lastPool takenIn givenIn
 account p sound [] kept = nothing p sound
 account p sound (e ∷ es) kept =

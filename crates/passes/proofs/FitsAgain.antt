@@ -1,28 +1,25 @@
 -- A pass leaves a tree that passes number 12's part on directories and tables again. Assumes nothing.
-use Prim.Native.Nat.{ℕ, zero, suc, _+_, _*_, _/_, _≤_, _<_}
-use mathlib.Core.Path.{_≡_, refl, sym, ap, ap₂, _∙_, subst}
+use Prim.Native.Nat.{ℕ, _/_, _≤_, _<_}
+use mathlib.Core.Path.{_≡_, refl, sym, ap, ap₂, _∙_}
 use mathlib.Core.Bool.{Bool, true, false, cond, not, _&&_, _||_}
-use mathlib.Core.List.{List, []}
+use mathlib.Core.List.{List}
 use native.Mathlib.Omega.{arith}
 use lib.ListN.{length, getD}
 use lib.Dec.{eqb}
-use borrow.Author.Tests.{not-true, not-false, eqb-false, eq-eqb}
+use borrow.Author.Tests.{not-true, eqb-false}
 use Rattle.runs.specs.Counts.{any}
-use Rattle.runs.proofs.Bools.{is-false, clash, both, and-both, or-left, or-right}
+use Rattle.runs.proofs.Bools.{is-false, clash, both, and-both}
 use Rattle.runs.proofs.Counts.{any-at, any-from, any-same}
 use Rattle.page_table.specs.Words.{present, number}
 use Rattle.page_table.specs.Stretches.{stretchSize, broken, directoryWord}
 use Rattle.page_table.specs.Reads.{leadsOn}
 use Rattle.reach.specs.Reach.{leadsTo}
-use Rattle.reach.proofs.LeafLaws.{leads-to}
 use Rattle.store.specs.Rewrite.{written}
-use Rattle.store.proofs.Scans.{written-other}
 use Rattle.trees.specs.Trees.{namesTable, alsoNamed, hasBroken, namesTwice, overlaps, sharesTable, meets, meetsRoot, met, apart, treeFits}
 use Rattle.collector.specs.Visits.{passLeaves, agedPuts, passWords}
-use Rattle.collector.proofs.Puts.{treePuts}
 use Rattle.trees.proofs.Apart.{Apart, apart-told, apart-alone, fits-apart}
 use Rattle.passes.proofs.OtherRoots.{other-word}
-use Rattle.collector.proofs.Passes.{tree-elsewhere, pass-is, pass-length, pass-root, pass-word}
+use Rattle.collector.proofs.Passes.{pass-length, pass-root, pass-word}
 
 -- directories whose words are the same in both runs
 module _ (a b : List ℕ) (long : length a ≡ length b) where
@@ -66,7 +63,8 @@ module _ (a b : List ℕ) (long : length a ≡ length b) where
   meets-same : (d e : ℕ) → Same d → Same e → meets a d e ≡ meets b d e
   unfolding meets sharesTable
   meets-same d e s t =
-      ap₂ _||_ (ap₂ (λ (x y : Bool). eqb d e || x || y) (names-same d 512 (e / 2) (omega arith) s) (names-same e 512 (d / 2) (omega arith) t))
+      ap₂ _||_ (ap₂ (λ (x y : Bool). eqb d e || x || y) (names-same d 512 (e / 2) (omega arith) s)
+      (names-same e 512 (d / 2) (omega arith) t))
       (any-same (λ j. alsoNamed a (directoryWord a e j) d 512) (λ j. alsoNamed b (directoryWord b e j) d 512) 512
       (λ j l. also-same e j d 512 l (omega arith) t s))
 
@@ -106,14 +104,16 @@ module _ (words : List ℕ) (first size id : ℕ) (known : id < 64) (root : lead
       let met-now = ap (λ (w : ℕ). meets after d (number w)) (sym same) ∙ outer .1 in
       clash (any-from (meetsRoot words id d) 64 r (s .1)
       (and-both (and-both (inner .0) leads)
-      (sym (meets-same after words long d (number (getD words r 0)) own-same (other-word words first size id root fits r (s .1) (eqb-false r id (not-true (eqb r id) (inner .0))) leads)) ∙ met-now))) not-met)
+      (sym (meets-same after words long d (number (getD words r 0)) own-same
+      (other-word words first size id root fits r (s .1) (eqb-false r id (not-true (eqb r id) (inner .0))) leads)) ∙ met-now))) not-met)
 
   pub apart-again : apart after id d ≡ true
   unfolding apart
   apart-again =
       let one = both (not (hasBroken words d) && not (namesTwice words d) && not (overlaps words d)) (not (met words id d)) ok .0 in
       and-both
-      (ap₂ (λ (x y : Bool). not x && not y && not (overlaps after d)) (broken-same after words long d own-same) (twice-same after words long d own-same)
+      (ap₂ (λ (x y : Bool). not x && not y && not (overlaps after d)) (broken-same after words long d own-same)
+      (twice-same after words long d own-same)
       ∙ ap (λ (z : Bool). not (hasBroken words d) && not (namesTwice words d) && not z) (overlap-same after words long d own-same) ∙ one)
       (ap not still-alone)
 
@@ -132,7 +132,8 @@ unfolding treeFits passWords passLeaves agedPuts leadsOn written
 unled words first size id e = rw (e, e)
 
 -- so the next pass is not refused for the tree
-pub fits-again : (words : List ℕ) (first size id : ℕ) → id < 64 → treeFits words id ≡ true → treeFits (passWords words first size id) id ≡ true
+pub fits-again : (words : List ℕ) (first size id : ℕ) → id < 64 → treeFits words id ≡ true → treeFits (passWords words first size id) id
+    ≡ true
 unfolding treeFits
 fits-again words first size id known fits = by-present (present (getD words id 0)) refl fits
   where

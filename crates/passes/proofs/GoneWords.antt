@@ -1,17 +1,17 @@
 -- What one pass and two passes make of the leaf of a page, over words. Assumes nothing.
 use Prim.Native.Nat.{ℕ, _+_, _*_, _/_, _%_, _<_}
-use mathlib.Core.Path.{_≡_, refl, sym, ap, _∙_, subst}
-use mathlib.Core.Bool.{Bool, true, false, cond, _&&_}
+use mathlib.Core.Path.{_≡_, sym, ap, _∙_, subst}
+use mathlib.Core.Bool.{Bool, true, false, cond}
 use mathlib.Core.List.{List}
 use native.Mathlib.Omega.{arith}
 use lib.ListN.{length, getD}
 use Rattle.runs.proofs.Bools.{and-both}
-use Rattle.page_table.specs.Words.{present, number, leafValid, leafPfn}
+use Rattle.page_table.specs.Words.{present, number, leafPfn}
 use Rattle.page_table.specs.Stretches.{directoryWord}
 use Rattle.page_table.specs.Reads.{leadsOn}
-use Rattle.page_table.specs.Walk.{walkTree, stopAt}
+use Rattle.page_table.specs.Walk.{walkTree}
 use Rattle.page_table.specs.declared.Found.{Found}
-use Rattle.page_table.specs.declared.Walk.the-variants.{Leaf, Absent}
+use Rattle.page_table.specs.declared.Walk.the-variants.{Leaf}
 use Rattle.page_table.proofs.Ways.{Way, way-of, way-absent}
 use Rattle.trees.specs.Trees.{treeFits}
 use Rattle.trees.proofs.Apart.{Apart, apart-told, fits-apart}
@@ -67,7 +67,8 @@ module _ (words : List ℕ) (first size id : ℕ) (known : id < 64) (fits : tree
       ≡ cond (isVisited first size (getD words (leafIndex words id vpn) 0)) (aged (getD words (leafIndex words id vpn) 0))
       (getD words (leafIndex words id vpn) 0)
   unfolding leafIndex
-  leaf-after = pass-leaf words first size id (led .root-leads) own-apart (vpn / 1024) (vpn % 1024) (omega arith) (led .word-leads) (omega arith)
+  leaf-after = pass-leaf words first size id (led .root-leads) own-apart (vpn / 1024) (vpn % 1024) (omega arith) (led .word-leads)
+      (omega arith)
 
 -- a page whose words lead on to a word that is not present
 gone-there : (words : List ℕ) (id vpn : ℕ) (f : Found) → Led words id vpn → f .index ≡ leafIndex words id vpn
@@ -134,6 +135,7 @@ gone-words words first size id known fits fits-after vpn f page found chosen = r
     twice =
         ap (λ (i : ℕ). getD (passWords (passWords words first size id) first size id) i 0) (place ∙ sym moved)
         ∙ leaf-after (passWords words first size id) first size id known fits-after vpn page led-after
-        ∙ ap (λ (i : ℕ). cond (isVisited first size (getD (passWords words first size id) i 0)) (aged (getD (passWords words first size id) i 0))
+        ∙ ap (λ (i : ℕ). cond (isVisited first size (getD (passWords words first size id) i 0))
+        (aged (getD (passWords words first size id) i 0))
         (getD (passWords words first size id) i 0)) (moved ∙ sym place)
         ∙ ap (λ (v : ℕ). cond (isVisited first size v) (aged v) v) once

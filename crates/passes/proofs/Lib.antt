@@ -10,3 +10,4 @@ pub mod Repeated
 pub mod StoresMade
 pub mod Backs
 pub mod Balance
+pub mod PastLaws

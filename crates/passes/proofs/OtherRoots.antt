@@ -1,14 +1,14 @@
 -- A pass changes no word that another root reaches, so no walk of it. Assumes nothing.
 use Prim.Native.Nat.{ℕ, _+_, _*_, _/_, _%_, _<_}
-use mathlib.Core.Path.{_≡_, refl, sym, ap, _∙_, subst}
-use mathlib.Core.Logic.{_⊎_, inl, inr, ⊎-elim}
+use mathlib.Core.Path.{_≡_, refl, sym, ap, _∙_}
+use mathlib.Core.Logic.{inl, inr, ⊎-elim}
 use mathlib.Core.Bool.{Bool, true, false, cond}
 use mathlib.Core.List.{List, [], _∷_}
 use native.Mathlib.Omega.{arith}
 use lib.ListN.{length, getD}
 use Rattle.runs.proofs.Bools.{both, clash}
 use Rattle.page_table.specs.Words.{present, number}
-use Rattle.page_table.specs.Stretches.{stretchSize, indexIn, broken, directoryWord}
+use Rattle.page_table.specs.Stretches.{stretchSize, indexIn, directoryWord}
 use Rattle.page_table.specs.Reads.{leadsOn, treeReads, Agree}
 use Rattle.page_table.specs.Walk.{indexBelow, walkTree}
 use Rattle.page_table.proofs.Local.{descend-local}

@@ -1,9 +1,9 @@
 -- A pass visits the leaves of its pages, lowest page first. Assumes nothing.
 use Prim.Native.Nat.{ℕ, zero, suc, _+_, _*_, _/_, _%_, _≤_, _<_}
-use mathlib.Core.Path.{_≡_, refl, sym, ap, ap₂, _∙_, subst}
+use mathlib.Core.Path.{_≡_, refl, sym, ap, ap₂, _∙_}
 use mathlib.Core.Bool.{Bool, true, false, cond, not, _&&_}
 use mathlib.Core.List.{List, [], _∷_, _++_, append-assoc, append-nil}
-use native.Mathlib.Nat.{add-suc, add-zero, add-assoc, lt-suc-self, zero-add}
+use native.Mathlib.Nat.{add-suc, add-zero, add-assoc, zero-add}
 use native.Mathlib.Omega.{arith}
 use lib.ListN.{length, getD}
 use Rattle.runs.proofs.Bools.{clash}
@@ -21,7 +21,8 @@ use Rattle.page_table.proofs.Ways.{goes-down}
 
 module _ (words : List ℕ) (first size : ℕ) where
   -- a walk that a word does not lead on visits nothing
-  stops : (vpn n at : ℕ) → leadsOn (length words) n (getD words at 0) ≡ false → pageLeaf first size (descend words vpn false (suc n) at) ≡ []
+  stops : (vpn n at : ℕ) → leadsOn (length words) n (getD words at 0) ≡ false → pageLeaf first size (descend words vpn false (suc n) at)
+      ≡ []
   unfolding descend leadsOn pageLeaf
   stops vpn n at h = go (present w) (broken (length words) (stretchSize n) w) h
     where
@@ -88,7 +89,8 @@ module _ (words : List ℕ) (first size : ℕ) where
             (value (1024 * number (getD words (512 * number (getD words id 0) + j) 0) + k)) ∷ []) []) []
         by-word true e =
             ap (pageLeaf first size) (goes-down words (1024 * j + k) false 0 (512 * number (getD words id 0) + j) e)
-            ∙ ap (λ (i : ℕ). pageLeaf first size (descend words (1024 * j + k) false 0 (1024 * number (getD words (512 * number (getD words id 0) + j) 0) + i)))
+            ∙ ap (λ (i : ℕ). pageLeaf first size (descend words (1024 * j + k) false 0
+            (1024 * number (getD words (512 * number (getD words id 0) + j) 0) + i)))
             column
             ∙ leaf-visit (1024 * j + k) (1024 * number (getD words (512 * number (getD words id 0) + j) 0) + k)
         by-word false e = stops (1024 * j + k) 0 (512 * number (getD words id 0) + j) e
@@ -119,14 +121,17 @@ module _ (words : List ℕ) (first size : ℕ) where
         go true = refl
         go false = refl
 
-  pages-add : (id a n m : ℕ) → pageLeaves words first size id a (n + m) ≡ pageLeaves words first size id a n ++ pageLeaves words first size id (a + n) m
+  pages-add : (id a n m : ℕ) → pageLeaves words first size id a (n + m)
+      ≡ pageLeaves words first size id a n ++ pageLeaves words first size id (a + n) m
   unfolding pageLeaves
   pages-add id a n zero = rw (add-zero n) (sym (append-nil (pageLeaves words first size id a n)))
   pages-add id a n (suc m) =
       rw (add-suc n m)
       (ap (λ (ps : List Put). ps ++ pageLeaf first size (walkTree words (a + (n + m)) false id)) (pages-add id a n m)
-      ∙ append-assoc (pageLeaves words first size id a n) (pageLeaves words first size id (a + n) m) (pageLeaf first size (walkTree words (a + (n + m)) false id))
-      ∙ ap (λ (k : ℕ). pageLeaves words first size id a n ++ (pageLeaves words first size id (a + n) m ++ pageLeaf first size (walkTree words k false id)))
+      ∙ append-assoc (pageLeaves words first size id a n) (pageLeaves words first size id (a + n) m)
+      (pageLeaf first size (walkTree words (a + (n + m)) false id))
+      ∙ ap (λ (k : ℕ). pageLeaves words first size id a n ++ (pageLeaves words first size id (a + n) m ++ pageLeaf first size
+      (walkTree words k false id)))
       (sym (add-assoc a n m)))
 
   pages-none : (id : ℕ) → leadsOn (length words) 1 (getD words id 0) ≡ false → (n : ℕ) → pageLeaves words first size id 0 n ≡ []

@@ -1,29 +1,26 @@
 -- The leaves that the next pass visits are those that were valid, aged once; so it is not refused for frames either. Assumes nothing.
-use Prim.Native.Nat.{ℕ, zero, suc, _+_, _*_, _/_, _≤_, _<_}
-use mathlib.Core.Path.{_≡_, refl, sym, ap, ap₂, _∙_, subst}
-use mathlib.Core.Bool.{Bool, true, false, cond, not, _&&_}
+use Prim.Native.Nat.{ℕ, zero, suc, _+_, _*_, _≤_, _<_}
+use mathlib.Core.Path.{_≡_, refl, sym, ap, ap₂, _∙_}
+use mathlib.Core.Bool.{Bool, true, false, cond, _&&_}
 use mathlib.Core.List.{List, [], _∷_, _++_}
 use native.Mathlib.Nat.{lt-suc-self}
 use native.Mathlib.Omega.{arith}
 use lib.ListN.{length, getD}
 use lib.Dec.{eqb}
 use Rattle.runs.specs.Bits.{bit, withFlag}
-use Rattle.runs.proofs.Bools.{both, clash}
 use Rattle.page_table.specs.Words.{present, number, leafValid, leafPfn}
 use Rattle.page_table.specs.Reads.{leadsOn}
 use Rattle.store.specs.Rewrite.{Put}
-use Rattle.heap.specs.Pools.{holds}
 use Rattle.heap.specs.Histories.{times}
 use Rattle.heap.specs.declared.Pool.{Pool}
 use Rattle.heap.proofs.Marks.{Sound}
-use Rattle.heap.proofs.Accounts.{Account}
 use Rattle.store.specs.Scan.{putAt, putsFrom}
 use Rattle.page_table.specs.Stretches.{directoryWord}
 use Rattle.collector.specs.Visits.{inPool, isVisited, aged, tableLeaves, treeLeaves, passLeaves, passWords}
 use Rattle.collector.specs.Frames.{pfnsOf, givenOf, allGiven, poolAfterGives}
-use Rattle.trees.proofs.Apart.{Apart, apart-told}
+use Rattle.trees.proofs.Apart.{Apart}
 use Rattle.collector.proofs.Passes.{pass-length, pass-root, pass-word, pass-leaf}
-use Rattle.passes.proofs.Ages.{young-present, young-valid, young-pfn, old-present}
+use Rattle.passes.proofs.Ages.{young-present, young-pfn, old-present}
 use Rattle.collector.proofs.FrameLaws.{all-within, within-all, fewer-given, gives-account}
 
 -- the leaves that were valid, aged
@@ -59,7 +56,8 @@ unfolding putsFrom keptOf
 scan-kept p p′ v v′ a zero h g = refl
 scan-kept p p′ v v′ a (suc n) h g =
     ap₂ _++_ (scan-kept p p′ v v′ a n (λ k l. h k (omega arith)) (λ k l. g k (omega arith)))
-    (ap (λ (t : Bool). cond t (putAt (a + n) (v′ (a + n)) ∷ []) []) (h n (lt-suc-self n)) ∙ go (p (a + n)) (leafValid (v (a + n))) (g n (lt-suc-self n)))
+    (ap (λ (t : Bool). cond t (putAt (a + n) (v′ (a + n)) ∷ []) []) (h n (lt-suc-self n))
+    ∙ go (p (a + n)) (leafValid (v (a + n))) (g n (lt-suc-self n)))
     ∙ sym (kept-append (putsFrom p v a n) (cond (p (a + n)) (putAt (a + n) (v (a + n)) ∷ []) [])
     ∙ ap (λ (xs : List Put). keptOf (putsFrom p v a n) ++ xs) (one (p (a + n))))
   where
@@ -83,13 +81,16 @@ module _ (words : List ℕ) (first size id : ℕ) (known : id < 64) (root : lead
   d = number (getD words id 0)
 
   table-kept : (j : ℕ) → j < 512 → leadsOn (length words) 0 (directoryWord words d j) ≡ true
-      → tableLeaves after first size (number (directoryWord words d j)) ≡ keptOf (tableLeaves words first size (number (directoryWord words d j)))
+      → tableLeaves after first size (number (directoryWord words d j))
+      ≡ keptOf (tableLeaves words first size (number (directoryWord words d j)))
   unfolding tableLeaves
   table-kept j l h =
       let t : ℕ = number (directoryWord words d j) in
-      scan-kept (λ i. isVisited first size (getD words i 0)) (λ i. isVisited first size (getD after i 0)) (λ i. getD words i 0) (λ i. getD after i 0)
+      scan-kept (λ i. isVisited first size (getD words i 0)) (λ i. isVisited first size (getD after i 0)) (λ i. getD words i 0)
+      (λ i. getD after i 0)
       (1024 * t) 1024
-      (λ k kl. ap (isVisited first size) (pass-leaf words first size id root own j k l h kl) ∙ visited-again first size (getD words (1024 * t + k) 0))
+      (λ k kl. ap (isVisited first size) (pass-leaf words first size id root own j k l h kl)
+      ∙ visited-again first size (getD words (1024 * t + k) 0))
       (λ k kl e. pass-leaf words first size id root own j k l h kl
       ∙ ap (λ (b : Bool). cond b (aged (getD words (1024 * t + k) 0)) (getD words (1024 * t + k) 0)) e)
 

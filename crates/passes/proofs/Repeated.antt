@@ -1,7 +1,7 @@
 -- An accepted pass can be made again at once. Assumes nothing.
 use Prim.Native.Nat.{ℕ, _<_}
 use mathlib.Core.Path.{_≡_, refl, sym, ap, ap₂, _∙_, subst}
-use mathlib.Core.Bool.{Bool, true, false, _&&_}
+use mathlib.Core.Bool.{Bool, true, false}
 use mathlib.Core.List.{List, []}
 use native.Mathlib.Omega.{arith}
 use lib.ListN.{length, getD}
@@ -9,7 +9,7 @@ use lib.Dec.{leb}
 use borrow.Author.Tests.{le-leb}
 use Rattle.runs.proofs.Bools.{and-both}
 use Rattle.registers.specs.Fields.{registersFit}
-use Rattle.registers.specs.Refusals.{refuseUnless, machineRefusal}
+use Rattle.registers.specs.Refusals.{refuseUnless}
 use Rattle.registers.proofs.RefusalLaws.{when-accepted}
 use Rattle.page_table.specs.Stretches.{lengthFits, tablesFit}
 use Rattle.page_table.specs.Reads.{leadsOn}
@@ -120,7 +120,8 @@ pass-again m next p id answer buffer-after words-after whole pass same registers
     length-stays : tablesFit (passWords (m .words) (p .first) (p .size) id) ≡ tablesFit (m .words)
     length-stays = words-length (m .words) (p .first) (p .size) id
 
-    leaves-next : passLeaves (next .words) (answer .pool .first) (answer .pool .size) id ≡ keptOf (passLeaves (m .words) (p .first) (p .size) id)
+    leaves-next : passLeaves (next .words) (answer .pool .first) (answer .pool .size) id
+        ≡ keptOf (passLeaves (m .words) (p .first) (p .size) id)
     leaves-next =
         ap₂ (λ (x y : ℕ). passLeaves (next .words) x y id) (a .first-same) (a .size-same)
         ∙ ap (λ (ws : List ℕ). passLeaves ws (p .first) (p .size) id) w

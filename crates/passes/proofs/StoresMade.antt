@@ -3,26 +3,22 @@ use Prim.Native.Nat.{ℕ, _+_, _<_}
 use mathlib.Core.Path.{_≡_, refl, sym, ap, ap₂, _∙_, subst}
 use mathlib.Core.List.{List, [], _∷_}
 use lib.ListN.{length}
-use Rattle.registers.specs.Refusals.{byRefusal}
-use Rattle.registers.specs.Replies.{refusalOf, done}
+use Rattle.registers.specs.Replies.{done}
 use Rattle.registers.specs.declared.Outcome.the-variants.{Done}
 use Rattle.registers.specs.declared.Reply.{Reply}
 use Rattle.registers.proofs.RefusalLaws.{when-accepted}
-use Rattle.slots.specs.Buffer.{Buffer}
 use Rattle.store.specs.Machine.{Machine}
 use Rattle.store.specs.Rewrite.{Put}
-use Rattle.store.specs.TableStore.{storeReply, bufferAfterStore, wordsAfterStore, TableStoreGives}
+use Rattle.store.specs.TableStore.{TableStoreGives}
 use Rattle.store.specs.Stores.{doneOf, afterStore, afterStores, emptiedIn}
 use Rattle.store.proofs.Scans.{Every}
 use Rattle.store.proofs.Storing.{Ready, put-accepted, put-length, ready-after, registers-stay}
-use Rattle.heap.specs.declared.Pool.{Pool}
 use Rattle.collector.specs.Visits.{passLeaves, agedPuts}
 use Rattle.collector.specs.Frames.{givenOf, poolAfterGives}
 use Rattle.collector.specs.Collect.{visitedBy, storesOf, collectAnswer, bufferAfterCollect, wordsAfterCollect}
 use Rattle.collector.specs.declared.Collected.{Collected}
 use Rattle.collector.proofs.Visited.{pass-inside}
-use Rattle.passes.specs.Gone.{Pass}
-use Rattle.passes.specs.AsStores.{Stored, leftBy, StoresMade, lastLeft, NoneRefused, emptiedBy, SameAsStores, PassAsStores}
+use Rattle.passes.specs.AsStores.{Stored, leftBy, StoresMade, lastLeft, NoneRefused, emptiedBy, PassAsStores}
 use Rattle.passes.proofs.Accepted.{grounds}
 
 -- a store leaves what its definition says
@@ -94,7 +90,8 @@ pass-as-stores m p id answer buffer-after words-after stored pass made = record 
     ready = grounds m p id answer buffer-after words-after pass .ready
 
     inside : Every (λ q. q .index < length (m .words)) (agedPuts (passLeaves (m .words) (p .first) (p .size) id))
-    inside = aged-inside (length (m .words)) (passLeaves (m .words) (p .first) (p .size) id) (pass-inside (m .words) (p .first) (p .size) id)
+    inside = aged-inside (length (m .words)) (passLeaves (m .words) (p .first) (p .size) id)
+        (pass-inside (m .words) (p .first) (p .size) id)
 
     answer-now : answer ≡ record {
       reply = done (m .registers) (emptiedIn m (agedPuts (passLeaves (m .words) (p .first) (p .size) id)));

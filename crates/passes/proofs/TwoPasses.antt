@@ -25,4 +25,5 @@ gone-in-two-passes m next p q id one two buffer₁ buffer₂ words₁ words₂ f
     ∙ ap₂ (λ (a b : ℕ). passWords (passWords (m .words) (p .first) (p .size) id) a b id) first-same size-same in
     let gone = gone-words (m .words) (p .first) (p .size) id (omega arith) (g .tree-fits) fits vpn f page found chosen in
     subst (λ (ws : List ℕ). GoneIn words₁ ws id vpn f) (sym w₂)
-    (subst (λ (ws : List ℕ). GoneIn ws (passWords (passWords (m .words) (p .first) (p .size) id) (p .first) (p .size) id) id vpn f) (sym w₁) gone)
+    (subst (λ (ws : List ℕ). GoneIn ws (passWords (passWords (m .words) (p .first) (p .size) id) (p .first) (p .size) id) id vpn f)
+    (sym w₁) gone)

@@ -45,7 +45,8 @@ unfoldable pub emptiedBy : List Stored → ℕ
 emptiedBy [] = 0
 emptiedBy (s ∷ ss) = doneOf (s .reply .outcome) + emptiedBy ss
 
-pub record SameAsStores (m : Machine) (answer : Collected) (buffer-after : Buffer) (words-after : List ℕ) (stored : List Stored) : Type 0 where
+pub record SameAsStores (m : Machine) (answer : Collected) (buffer-after : Buffer) (words-after : List ℕ)
+    (stored : List Stored) : Type 0 where
   pub none-refused : NoneRefused stored
   pub same-registers : answer .reply .registers ≡ (lastLeft m stored) .registers
   pub same-buffer : buffer-after ≡ (lastLeft m stored) .buffer

@@ -5,3 +5,4 @@ pub mod Others
 pub mod AsStores
 pub mod Frames
 pub mod Histories
+pub mod PastTheSize

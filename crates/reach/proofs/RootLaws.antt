@@ -1,19 +1,18 @@
 -- The links when a root's word comes or goes. Assumes nothing.
-use Prim.Native.Nat.{ℕ, _+_, _*_, _/_, _≤_, _<_}
+use Prim.Native.Nat.{ℕ, _+_, _*_, _/_, _≤_}
 use mathlib.Core.Path.{_≡_, refl, sym, ap, subst, _∙_}
 use mathlib.Core.Logic.{⊎-elim}
 use mathlib.Core.Bool.{Bool, true, false, cond, not, _&&_, _||_}
 use mathlib.Core.List.{List}
-use native.Mathlib.Numerals.{add-one}
 use native.Mathlib.Omega.{arith}
 use lib.ListN.{length, getD}
 use lib.Dec.{eqb}
 use borrow.Author.Tests.{eqb-true, eqb-false, eq-eqb, ne-eqb, not-true, not-false}
 use Rattle.runs.specs.Counts.{any}
 use Rattle.runs.proofs.Bools.{is-false, clash, both, and-both, or-either, or-left, or-right, same-test, or-false}
-use Rattle.runs.proofs.Counts.{any-at, any-from, any-suc}
-use Rattle.page_table.specs.Words.{present, number, reserved}
-use Rattle.page_table.specs.Stretches.{tablesFit, stretchSize, broken, inside}
+use Rattle.runs.proofs.Counts.{any-at}
+use Rattle.page_table.specs.Words.{number}
+use Rattle.page_table.specs.Stretches.{tablesFit, stretchSize}
 use Rattle.page_table.specs.Reads.{leadsOn}
 use Rattle.page_table.proofs.Stretches.{fit-bounds}
 use Rattle.reach.specs.Reach.{leadsTo, linksTo}

@@ -155,7 +155,8 @@ module _ (p : ℕ → Bool) where
           (λ (s : Some n). omega (arith, (lowest-true n n s) .1)) (none-or-some n)
 
       last : n < lowest p n (cond (p n) n d) → p n ≡ false
-      last g = is-false (p n) (λ t. let q : n < lowest p n n = subst (λ (b : Bool). n < lowest p n (cond b n d)) t g in omega (arith, at-most))
+      last g = is-false (p n) (λ t. let q : n < lowest p n n =
+          subst (λ (b : Bool). n < lowest p n (cond b n d)) t g in omega (arith, at-most))
 
   pub lowest-lt : (n d : ℕ) → d < n → lowest p n d < n
   lowest-lt n d l = ⊎-elim (λ (all : None n). subst (λ (x : ℕ). x < n) (sym (lowest-none n d all)) l)

@@ -1,7 +1,7 @@
 -- Words written one after another, and by a scan. Assumes nothing.
 use Prim.Native.Nat.{ℕ, zero, suc, _+_, _≤_, _<_}
 use mathlib.Core.Path.{_≡_, refl, sym, ap, _∙_, subst}
-use mathlib.Core.Logic.{_⊎_, inl, inr, ⊎-elim}
+use mathlib.Core.Logic.{_⊎_, inr, ⊎-elim}
 use mathlib.Core.Bool.{Bool, true, false, cond}
 use mathlib.Core.List.{List, [], _∷_, _++_, append-assoc, append-nil}
 use native.Mathlib.Nat.{add-suc, add-zero, lt-suc-self, eq-or-lt-of-le, le-of-suc-le-suc, add-assoc}
@@ -103,7 +103,8 @@ module _ (p : ℕ → Bool) (v : ℕ → ℕ) (a : ℕ) where
       last : a + n < length words → Goal n
       last l′ =
           one-at before n (subst (λ (len : ℕ). a + n < len) (sym (written-length (putsFrom p v a n) words)) l′)
-          ∙ ap (cond (p (a + n)) (v (a + n))) (written-other (putsFrom p v a n) words (a + n) (scan-elsewhere n (a + n) (inr (omega arith))))
+          ∙ ap (cond (p (a + n)) (v (a + n))) (written-other (putsFrom p v a n) words (a + n)
+          (scan-elsewhere n (a + n) (inr (omega arith))))
 
       here : k ≡ n → Goal k
       here e = subst Goal (sym e) (last (subst (λ (j : ℕ). a + j < length words) e inside))

@@ -11,7 +11,7 @@ use Rattle.registers.specs.Replies.{done}
 use Rattle.registers.specs.declared.Reply.{Reply}
 use Rattle.registers.proofs.RefusalLaws.{when-accepted}
 use Rattle.page_table.specs.Stretches.{tablesFit, lengthFits}
-use Rattle.slots.specs.Buffer.{Buffer, bufferFits}
+use Rattle.slots.specs.Buffer.{bufferFits}
 use Rattle.store.specs.Machine.{Machine}
 use Rattle.store.specs.Rewrite.{Put, written}
 use Rattle.store.specs.Sweep.{swept, emptied}

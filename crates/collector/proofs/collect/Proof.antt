@@ -35,7 +35,10 @@ same-length-4 : tie.Need-same-length-4
 same-length-4 c = search needs
 
 returns-2 : tie.Need-returns-2
-returns-2 c = collect-done _ _ _ _ (c .before .before .before .before .before .before .before .before .before .before .collect-refusal .ensures) (c .before .before .before .before .before .before .before .before .before .if1 .left) _ _ _ (c .before .before .before .before .before .before .age .ensures) _ (c .done .ensures)
+returns-2 c = collect-done _ _ _ _
+    (c .before .before .before .before .before .before .before .before .before .before .collect-refusal .ensures)
+    (c .before .before .before .before .before .before .before .before .before .if1 .left) _ _ _
+    (c .before .before .before .before .before .before .age .ensures) _ (c .done .ensures)
 
 pub collect-spec : {M : Type 1} → statement M
 collect-spec =

@@ -27,7 +27,8 @@ leads-on-requires c κs = search needs
 
 returns-2 : tie.Need-returns-2
 returns-2 c =
-    let sound = whole-pool _ (c .before .before .before .before .before .before .good .1 .0 .1 .1 .1 .1 .0 .1 .0 .1) (c .before .before .before .before .before .before .pre .2) in
+    let sound = whole-pool _ (c .before .before .before .before .before .before .good .1 .0 .1 .1 .1 .1 .0 .1 .0 .1)
+    (c .before .before .before .before .before .before .pre .2) in
     none-visited _ _ _ _ (c .before .before .before .before .tree-fits .ensures) sound (c .before .before .before .if1 .left)
     (leaves-none _ _ _ refl _ (c .before .leads-on .ensures) _ _ (c .if2 .taken))
 
@@ -36,16 +37,21 @@ number-of-requires c κs = search needs
 
 may-give-tree-requires : tie.Need-may-give-tree-requires
 may-give-tree-requires c κs =
-    let fits = sym (c .before .before .before .before .before .tree-fits .ensures) ∙ not-false _ (c .before .before .before .before .if1 .left) in
+    let fits = sym (c .before .before .before .before .before .tree-fits .ensures)
+    ∙ not-false _ (c .before .before .before .before .if1 .left) in
     let own = root-tree _ _ _ refl _ (c .before .before .leads-on .ensures) (c .before .if2 .left) _ (c .number-of .ensures) fits in
     (fit-bounds _ (c .before .before .before .before .before .before .before .pre .0) .1, own .0)
 
 returns-3 : tie.Need-returns-3
 returns-3 c =
-    let sound = whole-pool _ (c .before .before .before .before .before .before .before .before .good .1 .0 .1 .1 .1 .1 .0 .1 .0 .1) (c .before .before .before .before .before .before .before .before .pre .2) in
-    let leaves = leaves-tree _ _ _ refl _ (c .before .before .before .leads-on .ensures) (c .before .before .if2 .left) _ (c .before .number-of .ensures) _ _ in
-    frames-decide _ _ _ _ (c .before .before .before .before .before .before .tree-fits .ensures) sound (c .before .before .before .before .before .if1 .left) _
-    (c .may-give-tree .ensures ∙ ap (λ (ls : List Put). allGiven (c .before .before .before .before .before .before .before .before .args .pool) (pfnsOf ls)) leaves)
+    let sound = whole-pool _ (c .before .before .before .before .before .before .before .before .good .1 .0 .1 .1 .1 .1 .0 .1 .0 .1)
+    (c .before .before .before .before .before .before .before .before .pre .2) in
+    let leaves = leaves-tree _ _ _ refl _ (c .before .before .before .leads-on .ensures) (c .before .before .if2 .left) _
+    (c .before .number-of .ensures) _ _ in
+    frames-decide _ _ _ _ (c .before .before .before .before .before .before .tree-fits .ensures) sound
+    (c .before .before .before .before .before .if1 .left) _
+    (c .may-give-tree .ensures ∙ ap (λ (ls : List Put). allGiven
+    (c .before .before .before .before .before .before .before .before .args .pool) (pfnsOf ls)) leaves)
 
 pub may-collect-spec : {M : Type 1} → statement M
 may-collect-spec =

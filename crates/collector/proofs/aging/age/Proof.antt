@@ -1,5 +1,4 @@
 use mathlib.Core.Path.{refl, ap, _∙_}
-use mathlib.Core.List.{[]}
 use native.Mathlib.Omega.{arith}
 use Rattle.page_table.proofs.Stretches.{fit-bounds, fit-roots}
 use Rattle.collector.specs.Turns.{turns}
@@ -41,7 +40,10 @@ same-length-2 c = search needs
 returns-2 : tie.Need-returns-2
 returns-2 c =
     c .before .before .before .before .age-tree .ensures
-    ∙ ap (turns _) (leaves-tree _ _ _ refl _ (c .before .before .before .before .before .before .before .before .before .leads-on .ensures) (c .before .before .before .before .before .before .before .before .if1 .left) _ (c .before .before .before .before .before .number-of .ensures) _ _)
+    ∙ ap (turns _)
+    (leaves-tree _ _ _ refl _ (c .before .before .before .before .before .before .before .before .before .leads-on .ensures)
+    (c .before .before .before .before .before .before .before .before .if1 .left) _
+    (c .before .before .before .before .before .number-of .ensures) _ _)
 
 pub age-spec : {M : Type 1} → statement M
 age-spec =

@@ -18,7 +18,11 @@ rewrite-requires : tie.Need-rewrite-requires
 rewrite-requires c κs = search needs
 
 add-emptied : tie.Need-add-emptied
-add-emptied c = omega (arith, rewrite-le _ _ _ _ _ _ (c .before .before .before .before .before .rewrite .ensures), c .before .before .before .before .before .before .before .before .before .before .before .before .pre)
+add-emptied c = omega (
+  arith,
+  rewrite-le _ _ _ _ _ _ (c .before .before .before .before .before .rewrite .ensures),
+  c .before .before .before .before .before .before .before .before .before .before .before .before .pre,
+)
 
 is-valid-requires : tie.Need-is-valid-requires
 is-valid-requires c κs = search needs
@@ -30,7 +34,9 @@ same-length-2 : tie.Need-same-length-2
 same-length-2 c = search needs
 
 returns : tie.Need-returns
-returns c = turn-valid _ _ _ _ _ _ _ _ _ refl (c .before .before .before .before .before .before .before .before .before .aged-word .ensures) (c .before .before .before .before .before .before .before .before .rewrite .ensures) _ (c .before .is-valid .ensures) (c .if1 .taken)
+returns c = turn-valid _ _ _ _ _ _ _ _ _ refl
+    (c .before .before .before .before .before .before .before .before .before .aged-word .ensures)
+    (c .before .before .before .before .before .before .before .before .rewrite .ensures) _ (c .before .is-valid .ensures) (c .if1 .taken)
 
 pfn-of-requires : tie.Need-pfn-of-requires
 pfn-of-requires c κs = search needs
@@ -48,7 +54,11 @@ same-length-4 : tie.Need-same-length-4
 same-length-4 c = search needs
 
 returns-2 : tie.Need-returns-2
-returns-2 c = turn-old _ _ _ _ _ _ _ _ _ refl (c .before .before .before .before .before .before .before .before .before .before .before .before .before .aged-word .ensures) (c .before .before .before .before .before .before .before .before .before .before .before .before .rewrite .ensures) _ (c .before .before .before .before .before .is-valid .ensures) (c .before .before .before .before .if1 .left) _ _ (c .before .before .before .pfn-of .ensures) (c .before .before .give .ensures)
+returns-2 c = turn-old _ _ _ _ _ _ _ _ _ refl
+    (c .before .before .before .before .before .before .before .before .before .before .before .before .before .aged-word .ensures)
+    (c .before .before .before .before .before .before .before .before .before .before .before .before .rewrite .ensures) _
+    (c .before .before .before .before .before .is-valid .ensures) (c .before .before .before .before .if1 .left) _ _
+    (c .before .before .before .pfn-of .ensures) (c .before .before .give .ensures)
 
 pub age-leaf-spec : {M : Type 1} → statement M
 age-leaf-spec =

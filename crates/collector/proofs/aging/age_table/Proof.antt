@@ -4,12 +4,15 @@ use Prim.Native.Nat.{_-_}
 use mathlib.Core.Path.{refl, sym, _∙_}
 use native.Mathlib.Omega.{arith}
 use Rattle.slots.specs.Buffer.{Buffer}
-use Rattle.collector.proofs.TurnLaws.{Going, going-none, going-length, going-fits, going-given, going-emptied, going-visit, going-skip, going-all}
+use Rattle.collector.proofs.TurnLaws.{Going, going-none, going-length, going-fits, going-given, going-emptied, going-visit}
+use Rattle.collector.proofs.TurnLaws.{going-skip, going-all}
 use Rattle.collector.proofs.aging.age_table.Statement.{statement}
 use Rattle.collector.proofs.aging.age_table.Tie as tie
 
 abbrev Inv-loop : tie.InvT-loop
-Inv-loop buffer₀ words₀ first size table aged₀ k₀ buffer words aged k = Going first size table (record { buffer = Buffer.Wide buffer₀; words = words₀; aged = aged₀ }) (record { buffer = Buffer.Wide buffer; words = words; aged = aged }) k
+Inv-loop buffer₀ words₀ first size table aged₀ k₀ buffer words aged k =
+    Going first size table (record { buffer = Buffer.Wide buffer₀; words = words₀; aged = aged₀ })
+    (record { buffer = Buffer.Wide buffer; words = words; aged = aged }) k
 
 abbrev μ-loop : tie.MeasureT-loop
 μ-loop buffer₀ words₀ first size table aged₀ k₀ buffer words aged k = 1024 - k
@@ -30,7 +33,12 @@ mul-is-visited : tie.Need-mul-is-visited Inv-loop μ-loop
 mul-is-visited c = omega (arith, c .before .before .before .before .pre)
 
 slice-read-is-visited : tie.Need-slice-read-is-visited Inv-loop μ-loop
-slice-read-is-visited c = omega (arith, c .before .before .before .before .before .pre, going-length _ _ _ _ _ _ (c .before .before .loop .inv))
+slice-read-is-visited c = omega (
+  arith,
+  c .before .before .before .before .before .pre,
+  going-length _ _ _ _ _ _
+      (c .before .before .loop .inv),
+)
 
 is-visited-requires : tie.Need-is-visited-requires Inv-loop μ-loop
 is-visited-requires c κs = tt
@@ -55,16 +63,21 @@ loop-less : tie.Need-loop-less Inv-loop μ-loop
 loop-less c = omega arith
 
 loop-again : tie.Need-loop-again Inv-loop μ-loop
-loop-again c = going-visit _ _ _ _ _ _ (c .before .before .before .before .before .before .before .before .before .before .before .loop .inv) (omega arith) _ _ refl (c .before .before .before .before .before .before .before .before .is-visited .ensures) (c .before .before .before .before .before .before .before .if1 .taken) _ (c .before .before .before .before .age-leaf .ensures)
+loop-again c = going-visit _ _ _ _ _ _
+    (c .before .before .before .before .before .before .before .before .before .before .before .loop .inv) (omega arith) _ _ refl
+    (c .before .before .before .before .before .before .before .before .is-visited .ensures)
+    (c .before .before .before .before .before .before .before .if1 .taken) _ (c .before .before .before .before .age-leaf .ensures)
 
 loop-less-2 : tie.Need-loop-less-2 Inv-loop μ-loop
 loop-less-2 c = omega arith
 
 loop-again-2 : tie.Need-loop-again-2 Inv-loop μ-loop
-loop-again-2 c = going-skip _ _ _ _ _ _ (c .before .before .before .before .loop .inv) (omega arith) _ _ refl (c .before .is-visited .ensures) (c .if1 .left)
+loop-again-2 c = going-skip _ _ _ _ _ _ (c .before .before .before .before .loop .inv) (omega arith) _ _ refl
+    (c .before .is-visited .ensures) (c .if1 .left)
 
 same-length : tie.Need-same-length Inv-loop μ-loop
-same-length c = fits-length _ (going-fits _ _ _ _ _ _ (c .before .loop .inv) ∙ c .before .before .before .before .pre .0) ∙ sym (fits-length _ (c .before .before .before .before .pre .0))
+same-length c = fits-length _ (going-fits _ _ _ _ _ _ (c .before .loop .inv) ∙ c .before .before .before .before .pre .0)
+    ∙ sym (fits-length _ (c .before .before .before .before .pre .0))
 
 same-length-2 : tie.Need-same-length-2 Inv-loop μ-loop
 same-length-2 c = going-length _ _ _ _ _ _ (c .before .loop .inv)

@@ -42,19 +42,26 @@ is-refused-requires : tie.Need-is-refused-requires Inv-loop μ-loop
 is-refused-requires c κs = tt
 
 returns : tie.Need-returns Inv-loop μ-loop
-returns c = giving-stops _ _ _ _ _ _ _ (c .before .before .before .before .before .before .before .before .before .loop .inv) (omega arith) _ refl _ (c .before .before .before .before .before .before .is-visited .ensures) (c .before .before .before .before .before .if1 .taken) _ (c .before .before .before .before .pfn-of .ensures) _ (c .before .before .before .give .ensures) _ (c .before .is-refused .ensures) (c .if2 .taken) _
+returns c = giving-stops _ _ _ _ _ _ _ (c .before .before .before .before .before .before .before .before .before .loop .inv)
+    (omega arith) _ refl _ (c .before .before .before .before .before .before .is-visited .ensures)
+    (c .before .before .before .before .before .if1 .taken) _ (c .before .before .before .before .pfn-of .ensures) _
+    (c .before .before .before .give .ensures) _ (c .before .is-refused .ensures) (c .if2 .taken) _
 
 loop-less : tie.Need-loop-less Inv-loop μ-loop
 loop-less c = omega arith
 
 loop-again : tie.Need-loop-again Inv-loop μ-loop
-loop-again c = giving-on _ _ _ _ _ _ _ (c .before .before .before .before .before .before .before .before .before .loop .inv) (omega arith) _ refl _ (c .before .before .before .before .before .before .is-visited .ensures) (c .before .before .before .before .before .if1 .taken) _ (c .before .before .before .before .pfn-of .ensures) _ (c .before .before .before .give .ensures) _ (c .before .is-refused .ensures) (c .if2 .left)
+loop-again c = giving-on _ _ _ _ _ _ _ (c .before .before .before .before .before .before .before .before .before .loop .inv)
+    (omega arith) _ refl _ (c .before .before .before .before .before .before .is-visited .ensures)
+    (c .before .before .before .before .before .if1 .taken) _ (c .before .before .before .before .pfn-of .ensures) _
+    (c .before .before .before .give .ensures) _ (c .before .is-refused .ensures) (c .if2 .left)
 
 loop-less-2 : tie.Need-loop-less-2 Inv-loop μ-loop
 loop-less-2 c = omega arith
 
 loop-again-2 : tie.Need-loop-again-2 Inv-loop μ-loop
-loop-again-2 c = giving-skip _ _ _ _ _ _ _ (c .before .before .before .before .loop .inv) (omega arith) _ refl _ (c .before .is-visited .ensures) (c .if1 .left)
+loop-again-2 c = giving-skip _ _ _ _ _ _ _ (c .before .before .before .before .loop .inv) (omega arith) _ refl _
+    (c .before .is-visited .ensures) (c .if1 .left)
 
 returns-2 : tie.Need-returns-2 Inv-loop μ-loop
 returns-2 c = giving-all _ _ _ _ _ _ _ (c .before .loop .inv) (omega arith)

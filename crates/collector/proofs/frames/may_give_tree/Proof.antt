@@ -41,26 +41,34 @@ give-table-requires : tie.Need-give-table-requires Inv-loop μ-loop
 unfolding directoryWord
 give-table-requires c κs = (
   c .before .before .before .before .before .before .before .pre .0,
-  tree-fits _ _ _ _ _ _ _ (c .before .before .before .before .before .loop .inv) (omega arith) _ refl _ (c .before .before .leads-on .ensures) (c .before .if1 .taken) _ (c .number-of .ensures),
+  tree-fits _ _ _ _ _ _ _ (c .before .before .before .before .before .loop .inv) (omega arith) _ refl _
+      (c .before .before .leads-on .ensures) (c .before .if1 .taken) _ (c .number-of .ensures),
 )
 
 returns : tie.Need-returns Inv-loop μ-loop
 unfolding directoryWord
-returns c = tree-stops _ _ _ _ _ _ _ (c .before .before .before .before .before .before .before .before .before .loop .inv) (omega arith) _ refl _ (c .before .before .before .before .before .before .leads-on .ensures) (c .before .before .before .before .before .if1 .taken) _ (c .before .before .before .before .number-of .ensures) _ _ (c .before .before .before .give-table .ensures) (not-true _ (c .if2 .taken))
+returns c = tree-stops _ _ _ _ _ _ _ (c .before .before .before .before .before .before .before .before .before .loop .inv)
+    (omega arith) _ refl _ (c .before .before .before .before .before .before .leads-on .ensures)
+    (c .before .before .before .before .before .if1 .taken) _ (c .before .before .before .before .number-of .ensures) _ _
+    (c .before .before .before .give-table .ensures) (not-true _ (c .if2 .taken))
 
 loop-less : tie.Need-loop-less Inv-loop μ-loop
 loop-less c = omega arith
 
 loop-again : tie.Need-loop-again Inv-loop μ-loop
 unfolding directoryWord
-loop-again c = tree-on _ _ _ _ _ _ _ (c .before .before .before .before .before .before .before .before .before .loop .inv) (omega arith) _ refl _ (c .before .before .before .before .before .before .leads-on .ensures) (c .before .before .before .before .before .if1 .taken) _ (c .before .before .before .before .number-of .ensures) _ _ (c .before .before .before .give-table .ensures) (not-false _ (c .if2 .left))
+loop-again c = tree-on _ _ _ _ _ _ _ (c .before .before .before .before .before .before .before .before .before .loop .inv)
+    (omega arith) _ refl _ (c .before .before .before .before .before .before .leads-on .ensures)
+    (c .before .before .before .before .before .if1 .taken) _ (c .before .before .before .before .number-of .ensures) _ _
+    (c .before .before .before .give-table .ensures) (not-false _ (c .if2 .left))
 
 loop-less-2 : tie.Need-loop-less-2 Inv-loop μ-loop
 loop-less-2 c = omega arith
 
 loop-again-2 : tie.Need-loop-again-2 Inv-loop μ-loop
 unfolding directoryWord
-loop-again-2 c = tree-skip _ _ _ _ _ _ _ (c .before .before .before .before .loop .inv) (omega arith) _ refl _ (c .before .leads-on .ensures) (c .if1 .left)
+loop-again-2 c = tree-skip _ _ _ _ _ _ _ (c .before .before .before .before .loop .inv) (omega arith) _ refl _
+    (c .before .leads-on .ensures) (c .if1 .left)
 
 returns-2 : tie.Need-returns-2 Inv-loop μ-loop
 returns-2 c = tree-all _ _ _ _ _ _ _ (c .before .loop .inv) (omega arith)

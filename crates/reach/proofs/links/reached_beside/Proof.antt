@@ -33,7 +33,8 @@ number-of-requires c κs = tt
 
 returns : tie.Need-returns Inv-loop μ-loop
 returns c =
-    search-found (besideAt _ _ _) 64 _ _ (beside-at _ _ _ _ _ _ _ refl (c .before .before .leads-on .ensures) (c .before .number-of .ensures))
+    search-found (besideAt _ _ _) 64 _ _ (beside-at _ _ _ _ _ _ _ refl (c .before .before .leads-on .ensures)
+    (c .before .number-of .ensures))
     (omega arith) (c .if1 .taken)
     ∙ beside-any _ _ _
 
