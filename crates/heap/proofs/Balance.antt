@@ -66,7 +66,8 @@ module _ (first size : ℕ) where
 
     -- whatever calls led to it by these frames
     pub balanced : (now : Pool) (taken given : List ℕ) → Account (reply .pool) now taken given → Balanced first size taken given now
-    unfolding clearPool heldBy freeFrames heldFrames freeAt isFull heldOutcome heldRefusal takeRefusal fullRefusal giveRefusal byRefusal refuseUnless
+    unfolding clearPool heldBy freeFrames heldFrames freeAt isFull heldOutcome heldRefusal takeRefusal fullRefusal giveRefusal byRefusal
+        refuseUnless
     balanced now taken given account-now = record {
       first-stays = told .first-same;
       size-stays = told .size-same;

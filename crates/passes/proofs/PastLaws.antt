@@ -67,7 +67,8 @@ module _ (m : Machine) (p q : Pool) (id : ℕ) (same : SameFrames p q) where
       any-same (λ place. leb 1 (times (p .first + place) pfns) && not (heldAt (p .bits) place))
       (λ place. leb 1 (times (p .first + place) pfns) && not (heldAt (q .bits) place)) (p .size)
       (λ place l. ap (λ (b : Bool). leb 1 (times (p .first + place) pfns) && not b) (same .held-same place l))
-      ∙ ap₂ (λ (a b : ℕ). any (λ place. leb 1 (times (a + place) pfns) && not (heldAt (q .bits) place)) b) (same .first-same) (same .size-same)
+      ∙ ap₂ (λ (a b : ℕ). any (λ place. leb 1 (times (a + place) pfns) && not (heldAt (q .bits) place)) b) (same .first-same)
+      (same .size-same)
 
   may-same : mayCollect (m .words) p id ≡ mayCollect (m .words) q id
   unfolding mayCollect mappedRight
@@ -103,7 +104,8 @@ module _ (m : Machine) (p q : Pool) (id : ℕ) (same : SameFrames p q) where
     pool-left =
         subst (λ (x : Pool). SameFrames x ((collectAnswer m q id) .pool))
         (sym (by-part (collectRefusal m p id) _ _ (λ (a : Collected). a .pool)))
-        (subst (SameFrames (byRefusal (collectRefusal m p id) (poolAfterGives p (givenOf (passLeaves (m .words) (p .first) (p .size) id))) p))
+        (subst (SameFrames (byRefusal (collectRefusal m p id)
+        (poolAfterGives p (givenOf (passLeaves (m .words) (p .first) (p .size) id))) p))
         (sym (by-part (collectRefusal m q id) _ _ (λ (a : Collected). a .pool))) pools);
   }
     where
@@ -117,9 +119,11 @@ module _ (m : Machine) (p q : Pool) (id : ℕ) (same : SameFrames p q) where
       pools : SameFrames (byRefusal (collectRefusal m p id) (poolAfterGives p (givenOf (passLeaves (m .words) (p .first) (p .size) id))) p)
           (byRefusal (collectRefusal m q id) (poolAfterGives q (givenOf (passLeaves (m .words) (q .first) (q .size) id))) q)
       pools =
-          subst (λ (n : ℕ). SameFrames (byRefusal (collectRefusal m p id) (poolAfterGives p back) p) (byRefusal n (poolAfterGives q (givenOf (passLeaves (m .words) (q .first) (q .size) id))) q))
+          subst (λ (n : ℕ). SameFrames (byRefusal (collectRefusal m p id) (poolAfterGives p back) p)
+          (byRefusal n (poolAfterGives q (givenOf (passLeaves (m .words) (q .first) (q .size) id))) q))
           refusal-same
-          (subst (λ (ls : List Put). SameFrames (byRefusal (collectRefusal m p id) (poolAfterGives p back) p) (byRefusal (collectRefusal m p id) (poolAfterGives q (givenOf ls)) q))
+          (subst (λ (ls : List Put). SameFrames (byRefusal (collectRefusal m p id) (poolAfterGives p back) p)
+          (byRefusal (collectRefusal m p id) (poolAfterGives q (givenOf ls)) q))
           leaves-same (by-test (eqb (collectRefusal m p id) 0)))
 
 pub past-ignored-by-passes : PastIgnored

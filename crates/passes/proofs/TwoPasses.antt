@@ -12,7 +12,8 @@ use Rattle.passes.proofs.GoneWords.{gone-words}
 
 pub gone-in-two-passes : GoneInTwoPasses
 unfolding GoneInTwoPasses
-gone-in-two-passes m next p q id one two buffer₁ buffer₂ words₁ words₂ first-pass same first-same size-same second-pass vpn f page found chosen =
+gone-in-two-passes m next p q id one two buffer₁ buffer₂ words₁ words₂ first-pass same first-same size-same second-pass vpn f page
+    found chosen =
     let g = grounds m p id one buffer₁ words₁ first-pass in
     let h = grounds next q id two buffer₂ words₂ second-pass in
     let known = g .known in
