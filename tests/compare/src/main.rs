@@ -3,6 +3,7 @@
 //! Use:
 //!   compare calls PROBE [SEED] [CASES]        the single calls, by the program `probe`
 //!   compare pools PROBE [SEED] [CASES]        calls on pools of frames, by the program `probe`
+//!   compare passes PROBE [SEED] [CASES]       passes of the collector, by the program `probe`
 //!   compare traces MMUTRACE [SEED] [TRACES]   whole traces, by the trace program
 //!   compare reports MMUREPORT [SEED] [FILES]  reports over trace files, by the report program
 //!   compare host HOST [SEED] [CASES]          the C calls, by tests/host
@@ -23,6 +24,7 @@ mod expected;
 mod fault;
 mod host;
 mod outcome;
+mod passes;
 mod pools;
 mod program;
 mod protocol;
@@ -38,7 +40,7 @@ mod witness;
 use std::process::ExitCode;
 
 const SEED: u64 = 100;
-const USE: &str = "use: compare calls|pools|traces|reports|host PROGRAM [SEED] [NUMBER]
+const USE: &str = "use: compare calls|pools|passes|traces|reports|host PROGRAM [SEED] [NUMBER]
      compare words PROBE HOST [SEED] [NUMBER]";
 
 fn compare() -> Result<bool, String> {
@@ -64,6 +66,7 @@ fn compare() -> Result<bool, String> {
     match &words[0][..] {
         "calls" => calls::compare(program, seed, many(calls::CASES)?),
         "host" => host::compare(program, seed, many(host::CASES)?),
+        "passes" => passes::compare(program, seed, many(passes::CASES)?),
         "pools" => pools::compare(program, seed, many(pools::CASES)?),
         "reports" => reports::compare(program, seed, many(reports::FILES)?),
         "traces" => traces::compare(program, seed, many(traces::TRACES)?),

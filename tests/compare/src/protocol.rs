@@ -40,6 +40,7 @@ pub enum PoolCall {
     Give { pfn: u32 },
     Held,
     Map { index: u32, leaf: u32 },
+    Collect { id: u32 },
 }
 
 impl Call {
@@ -68,6 +69,7 @@ impl PoolCall {
             PoolCall::Give { pfn } => [11, pfn, 0, 0, 0],
             PoolCall::Held => [12, 0, 0, 0, 0],
             PoolCall::Map { index, leaf } => [13, index, leaf, 0, 0],
+            PoolCall::Collect { id } => [14, id, 0, 0, 0],
         }
     }
 }

@@ -5,14 +5,14 @@
 //! states, and of calls in sequences of a unit and a pool.
 
 mod alone;
-mod chain;
+pub mod chain;
 mod comparison;
 mod fill;
-mod history;
+pub mod history;
 mod maps;
-mod outcome;
+pub mod outcome;
 mod sequence;
-mod shapes;
+pub mod shapes;
 
 use crate::random::Random;
 use comparison::Comparison;
