@@ -9,6 +9,8 @@
 //!   compare host HOST [SEED] [CASES]          the C calls, by tests/host
 //!   compare words PROBE HOST [SEED] [CASES]   the C calls that start and set, by tests/host, with
 //!                                             the calls over words, by the program `probe`
+//!   compare stand-in [FAULT]                  speaks as `probe`, with a fault in its passes or, by
+//!                                             the name None, without; lists them if none is named
 //!
 //! Prints how often each outcome happened. An outcome fails that never happened or in which the
 //! programs differed. The last line is 'N passed, M failed'; the status is 0 where M is 0.
@@ -33,6 +35,7 @@ mod random;
 mod read_back;
 mod reports;
 mod request;
+mod stand_in;
 mod tally;
 mod traces;
 mod witness;
@@ -41,10 +44,14 @@ use std::process::ExitCode;
 
 const SEED: u64 = 100;
 const USE: &str = "use: compare calls|pools|passes|traces|reports|host PROGRAM [SEED] [NUMBER]
-     compare words PROBE HOST [SEED] [NUMBER]";
+     compare words PROBE HOST [SEED] [NUMBER]
+     compare stand-in [FAULT]";
 
 fn compare() -> Result<bool, String> {
     let words: Vec<String> = std::env::args().skip(1).collect();
+    if words.first().is_some_and(|word| word == "stand-in") {
+        return stand_in::speak(words.get(1).map(String::as_str));
+    }
     let programs = match words.first().map(String::as_str) {
         Some("words") => 2,
         _ => 1,

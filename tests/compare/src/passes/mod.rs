@@ -14,7 +14,7 @@ mod refusals;
 mod room;
 mod sequence;
 mod slots;
-mod stand_ins;
+pub mod stand_ins;
 
 use crate::put::PutJudged;
 use crate::random::Random;

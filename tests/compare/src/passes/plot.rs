@@ -322,9 +322,10 @@ pub fn any_place(random: &mut Random, length: usize) -> usize {
 
 /// A present leaf with any bits between, in some all or none.
 pub fn leaf(random: &mut Random, valid: bool, pfn: u32) -> u32 {
-    let between = match random.below(4) {
+    let between = match random.below(5) {
         0 => 0,
         1 => state::largest(BETWEEN),
+        2 => 1 << random.below(BETWEEN as usize),
         _ => random.bits(BETWEEN),
     };
     PRESENT | u32::from(valid) << 30 | between << 19 | pfn

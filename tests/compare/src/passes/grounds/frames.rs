@@ -113,7 +113,7 @@ pub fn ways() -> Vec<Way> {
 }
 
 /// A plot of whose leaves none maps a frame of the pool yet; every frame of it is held.
-fn unmapped(random: &mut Random) -> Plot {
+pub fn unmapped(random: &mut Random) -> Plot {
     let id = any_id(random);
     let mut plot = Plot::alone(random, id);
     for (_, table) in plot.tree().tables.clone() {

@@ -3,6 +3,7 @@
 
 mod broken;
 mod frames;
+mod hidden;
 mod met;
 mod overlap;
 mod twice;
@@ -78,6 +79,7 @@ fn ways() -> Vec<Way> {
         overlap::ways(),
         met::ways(),
         frames::ways(),
+        hidden::ways(),
     ]
     .into_iter()
     .flatten()

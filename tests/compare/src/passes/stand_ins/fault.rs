@@ -70,6 +70,9 @@ faults! {
     TwiceNotWithFirstWord,
     TwiceNotWithLastWord,
     TwiceThoughAbsent,
+    TwiceOfEmptyTablePasses,
+    JudgedWithVisitsOnly,
+    HiddenBrokenWordPasses,
     OverlapPasses,
     OverlapOfUpperHalfPasses,
     OverlapOfLowerHalfPasses,
@@ -99,6 +102,9 @@ faults! {
     OthersEndAtBrokenRoot,
     OthersEndAtAbsentRoot,
     OthersMeetingRefused,
+    OtherOfNumber1Ignored,
+    OtherOfLastInsideIgnored,
+    MetEmptyTablePasses,
 
     // The frames.
     FrameTwicePasses,
@@ -121,6 +127,8 @@ faults! {
     FreeByOthersRefused,
     FirstFrameFreePasses,
     LastFrameFreePasses,
+    HiddenTwicePasses,
+    HiddenFreePasses,
 
     // Which leaves are visited, and in which order.
     ContextInsteadOfId,
@@ -147,7 +155,7 @@ faults! {
     PoolEndIncluded,
     PoolFirstLeft,
     PoolLastLeft,
-    FreeWordsLeft,
+    FramesAtBit0Left,
     EveryLeafVisited,
 
     // What becomes of a leaf and its frame.

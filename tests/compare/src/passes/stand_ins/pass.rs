@@ -147,7 +147,7 @@ fn swept(
     }
     let before = buffer.to_vec();
     let judged_under = match fault {
-        Fault::SweepUnderContext => Some(registers.context),
+        Fault::SweepUnderContext if registers.context < 63 => Some(registers.context),
         _ => None,
     };
     let mut emptied = sweep_under(judged_under, buffer, words);
@@ -174,8 +174,11 @@ fn sweep_under(id: Option<u32>, buffer: &mut [u64], words: &[u32]) -> u32 {
     for (slot, number) in buffer.iter_mut().enumerate().take(SLOTS) {
         let entry = Entry::unpack(*number);
         let empty = Entry::empty(slot / LOCATIONS);
-        let page_id = entry.page_id.max(id);
-        if entry != empty && !is_kept(slot, Entry { page_id, ..entry }, words) {
+        let under = Entry {
+            page_id: id,
+            ..entry
+        };
+        if entry != empty && !is_kept(slot, under, words) {
             *number = empty.pack();
             emptied += 1;
         }

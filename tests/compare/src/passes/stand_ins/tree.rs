@@ -4,6 +4,7 @@ use super::fault::Fault;
 use crate::cases::forest::{DIRECTORY_WORDS, PRESENT, TABLE_WORDS};
 use crate::passes::plot::VALID;
 use reference::heap::{Pool, PFNS};
+use reference::{walk_tree, Walk};
 use std::ops::Range;
 
 /// One more than a pool has bits for.
@@ -68,6 +69,10 @@ impl Tree<'_> {
     }
 
     pub fn is_refused(&self, pool: &Pool) -> bool {
+        let in_pool = |(_, word): &(usize, u32)| pool.place_of(word % PFNS).is_some();
+        if self.fault == Fault::JudgedWithVisitsOnly && !self.leaves().iter().any(in_pool) {
+            return false;
+        }
         self.is_broken
             || self.names_twice()
             || self.overlaps()
@@ -100,6 +105,10 @@ impl Tree<'_> {
         let is_left_out = match self.fault {
             Fault::FirstWordNotJudged => place == 0,
             Fault::LastWordNotJudged => place == LAST_WORD,
+            Fault::HiddenBrokenWordPasses => {
+                let page = (TABLE_WORDS * place) as u32;
+                self.is_hidden(page) && self.is_hidden(page + 1)
+            }
             _ => false,
         };
         if self.fault == Fault::AbsentWordsJudged && word < PRESENT && word != 0 {
@@ -168,11 +177,24 @@ impl Tree<'_> {
                 Fault::TwiceSideBySideOnly => a.0.abs_diff(b.0) == 1,
                 Fault::TwiceNotWithFirstWord => a.0 != 0 && b.0 != 0,
                 Fault::TwiceNotWithLastWord => a.0 != LAST_WORD && b.0 != LAST_WORD,
+                Fault::TwiceOfEmptyTablePasses => self.has_leaf(a.1..a.1 + TABLE_WORDS),
                 _ => true,
             };
             counts && a.0 != b.0 && a.1 == b.1
         };
         named.iter().any(|a| named.iter().any(|b| is_pair(a, b)))
+    }
+
+    fn has_leaf(&self, table: Range<usize>) -> bool {
+        self.words[table].iter().any(|&word| word >= PRESENT)
+    }
+
+    /// Whether the global tree has a leaf for the page.
+    fn is_hidden(&self, page: u32) -> bool {
+        matches!(
+            walk_tree(self.words, reference::Tree::Global, 0, page),
+            Walk::Leaf(_)
+        )
     }
 
     fn overlaps(&self) -> bool {
@@ -229,6 +251,9 @@ impl Tree<'_> {
         let mut tables = Vec::new();
         for index in directory {
             match named(self.words, self.other(self.words[index]), TABLE_WORDS) {
+                Named::Stretch(table)
+                    if self.fault == Fault::OtherOfLastInsideIgnored
+                        && table.end == self.words.len() => {}
                 Named::Stretch(table) => tables.push(table),
                 Named::Broken if self.fault == Fault::OtherBrokenWordRefused => return None,
                 Named::Broken if self.fault == Fault::OtherEndsAtBrokenWord => break,
@@ -243,6 +268,7 @@ impl Tree<'_> {
         match self.fault {
             Fault::OtherReservedBitsIgnored => word & 0x8000_FFFF,
             Fault::OtherAbsentReaches => word | PRESENT,
+            Fault::OtherOfNumber1Ignored if word == PRESENT | 1 => 0,
             _ => word,
         }
     }
@@ -264,7 +290,10 @@ impl Tree<'_> {
     /// Whether another tree's directory or table meets an own stretch.
     fn meets(&self, (is_directory, other): &(bool, Range<usize>)) -> bool {
         let by_directory = self.directory.iter().any(|own| meet(own, other));
-        let by_table = self.tables.iter().any(|(_, own)| meet(own, other));
+        let by_table = self.tables.iter().any(|(_, own)| {
+            let counts = self.fault != Fault::MetEmptyTablePasses || self.has_leaf(own.clone());
+            counts && meet(own, other)
+        });
         match (self.fault, is_directory) {
             (Fault::MetDirectoriesPass, true) => by_table,
             (Fault::MetOwnTableOverDirectoryPasses, true) => by_directory,
@@ -276,18 +305,27 @@ impl Tree<'_> {
 
     fn frames_refused(&self, pool: &Pool) -> bool {
         let leaves = self.leaves();
+        let all = Tree::of(Fault::None, self.words, self.id as u32).leaves();
         let of_others = self.leaves_of_others();
         let is_twice = |a: &(usize, u32), b: &(usize, u32)| {
             a.0 != b.0 && a.1 % PFNS == b.1 % PFNS && self.twice_counts(pool, *a, *b)
         };
         let others_too = self.fault == Fault::FrameTwiceByOthersRefused;
-        let twice = leaves.iter().any(|a| {
-            leaves.iter().any(|b| is_twice(a, b))
+        let twice_among = match self.fault {
+            Fault::HiddenFreePasses => &all,
+            _ => &leaves,
+        };
+        let twice = twice_among.iter().any(|a| {
+            twice_among.iter().any(|b| is_twice(a, b))
                 || others_too && of_others.iter().any(|b| is_twice(a, b))
         });
         let is_free = |&(_, word): &(usize, u32)| self.free_counts(pool, word);
         let others_free = self.fault == Fault::FreeByOthersRefused && of_others.iter().any(is_free);
-        twice || leaves.iter().any(is_free) || others_free
+        let free = match self.fault {
+            Fault::HiddenTwicePasses => all.iter().any(is_free),
+            _ => leaves.iter().any(is_free),
+        };
+        twice || free || others_free
     }
 
     /// The own leaves' indices and words, absent ones too where the fault takes them.
@@ -296,7 +334,12 @@ impl Tree<'_> {
             self.fault,
             Fault::FrameTwiceByAbsentRefused | Fault::FreeByAbsentRefused
         );
+        let is_hidden = |page: u32| match self.fault {
+            Fault::HiddenTwicePasses | Fault::HiddenFreePasses => self.is_hidden(page),
+            _ => false,
+        };
         self.leaf_words()
+            .filter(|(page, _)| !is_hidden(*page))
             .map(|(_, index)| (index, self.words[index]))
             .filter(|(_, word)| *word >= PRESENT || absent_too && *word != 0)
             .collect()

@@ -35,7 +35,7 @@ pub fn visits(fault: Fault, words: &[u32], pool: &Pool, root: u32) -> Vec<Visit>
         .leaf_words()
         .filter_map(|(page, index)| found(fault, words, root, (page, index)))
         .filter(|visit| visit.word >= PRESENT && is_in(fault, pool, visit.pfn()))
-        .filter(|visit| !is_left(fault, words, pool, visit))
+        .filter(|visit| !is_left(fault, pool, visit))
         .collect();
     if fault == Fault::GlobalLeavesVisitedToo {
         let global = Tree::of(Fault::None, words, 63);
@@ -97,7 +97,7 @@ fn is_in(fault: Fault, pool: &Pool, pfn: u32) -> bool {
     }
 }
 
-fn is_left(fault: Fault, words: &[u32], pool: &Pool, visit: &Visit) -> bool {
+fn is_left(fault: Fault, pool: &Pool, visit: &Visit) -> bool {
     let in_table = visit.index % TABLE_WORDS;
     match fault {
         Fault::FirstPageLeft => visit.page == 0,
@@ -109,9 +109,9 @@ fn is_left(fault: Fault, words: &[u32], pool: &Pool, visit: &Visit) -> bool {
         Fault::MarkedPagesLeft => visit.word & SOFTWARE != 0,
         Fault::ValidPagesLeft => visit.is_valid(),
         Fault::NotValidPagesLeft => !visit.is_valid(),
-        Fault::FreeWordsLeft => {
+        Fault::FramesAtBit0Left => {
             let place = visit.pfn() - pool.first;
-            words.len() > 4096 && place >= 64 && place.is_multiple_of(64)
+            place >= 64 && place.is_multiple_of(64)
         }
         _ => false,
     }
