@@ -20,7 +20,7 @@ use crate::put::PutJudged;
 use crate::random::Random;
 use comparison::Comparison;
 
-pub const CASES: usize = 40_000;
+pub const CASES: usize = 200_000;
 
 pub fn compare(program: &str, seed: u64, number: usize) -> Result<bool, String> {
     let mut comparison = Comparison::start(program)?;
