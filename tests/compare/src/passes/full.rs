@@ -14,8 +14,11 @@ const AGED: &str = "pass over 4096 pages, all of them aged";
 const GONE: &str = "pass over 4096 pages, all of them taken away";
 const BOTH: &str = "pass over 4096 pages, some aged and some taken away";
 
+/// Whether the leaf is valid that is planted when so many are left.
+type IsValid = fn(usize) -> bool;
+
 /// Whether pages are valid, and what the first pass does.
-const KINDS: [(fn(usize) -> bool, &str); 3] = [
+const KINDS: [(IsValid, &str); 3] = [
     (|_| true, AGED),
     (|_| false, GONE),
     (|page| page % 3 == 0, BOTH),
@@ -44,7 +47,7 @@ pub fn put(to: &mut dyn PutJudged, random: &mut Random) {
 }
 
 /// Four tables whose every leaf maps a frame, in no order.
-fn grown(random: &mut Random, is_valid: fn(usize) -> bool) -> Plot {
+fn grown(random: &mut Random, is_valid: IsValid) -> Plot {
     let mut plot = with_tables(random);
     plot.pool = shapes::full(random, MOST_FRAMES);
     let first = plot.pool.first;

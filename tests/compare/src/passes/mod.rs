@@ -15,6 +15,7 @@ mod room;
 mod sequence;
 mod slots;
 pub mod stand_ins;
+mod visit;
 
 use crate::put::PutJudged;
 use crate::random::Random;

@@ -352,7 +352,7 @@ pub fn broken(random: &mut Random, length: usize) -> u32 {
         0 => PRESENT,
         1 => PRESENT | outside,
         2 => PRESENT | 0xFFFF,
-        _ => PRESENT | 1 << (16 + random.below(15)) | 1 + random.bits(2),
+        _ => PRESENT | 1 << (16 + random.below(15)) | (1 + random.bits(2)),
     }
 }
 
@@ -369,7 +369,7 @@ mod tests {
             let id = any_id(&mut random);
             let alone = Plot::alone(&mut random, id);
             assert_eq!(alone.grounds(), []);
-            assert!(alone.tree().tables.len() >= 1);
+            assert!(!alone.tree().tables.is_empty());
         }
     }
 }

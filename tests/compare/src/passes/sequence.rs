@@ -3,17 +3,15 @@
 
 use super::plot::{any_id, any_place, Plot, VALID};
 use crate::cases::forest::PRESENT;
-use crate::cases::witnesses::Witnesses;
 use crate::cases::{spoil, state};
-use crate::comparison::Judges;
-use crate::expected::DONE;
 use crate::pools::chain::Chain;
+use crate::pools::pooled::Pooled;
 use crate::pools::shapes;
-use crate::protocol::{Answer, Call, PoolCall, Request};
+use crate::protocol::{Call, PoolCall};
 use crate::put::PutJudged;
 use crate::random::Random;
 use crate::witness::{LookAt, Told, Witness};
-use reference::collector::{aged_or_gone, by_tables, grounds};
+use reference::collector::{aged_or_gone, by_tables, grounds, Unfit};
 use reference::heap::{mapped_word, PFNS};
 use reference::*;
 
@@ -56,10 +54,7 @@ pub fn all() -> Vec<String> {
 }
 
 struct Sequence {
-    chain: Chain,
-    registers: Registers,
-    buffer: Vec<u64>,
-    witnesses: Witnesses,
+    pooled: Pooled,
     id: u32,
     /// Identifications with trees, the own one among them.
     ids: Vec<u32>,
@@ -69,8 +64,8 @@ struct Sequence {
     back: Vec<u32>,
     /// Pages that passes took away.
     gone: Vec<u32>,
+    /// That of the last access.
     page: u32,
-    run_is_kept: bool,
 }
 
 /// One sequence, from a start and a new pool.
@@ -78,7 +73,7 @@ pub fn put(to: &mut dyn PutJudged, random: &mut Random) {
     let mut sequence = Sequence::begin(to, random);
     for step in 0..40 + random.below(160) {
         if step % STEPS_TO_ALL_WORDS == 0 {
-            sequence.ask_for_words(to);
+            sequence.pooled.ask_for_words(to);
         }
         sequence.step(to, random);
     }
@@ -87,9 +82,6 @@ pub fn put(to: &mut dyn PutJudged, random: &mut Random) {
 
 impl Sequence {
     fn begin(to: &mut dyn PutJudged, random: &mut Random) -> Sequence {
-        let buffer = state::buffer(random, SLOTS);
-        let start = Request::without_run(Call::Start, state::registers(random), buffer);
-        let started = to.put_judged(Judges::default(), start);
         let size = match random.one_in(2) {
             true => 4 + random.bits(4),
             false => shapes::size(random),
@@ -99,17 +91,13 @@ impl Sequence {
         let plot = planted(random, &chain, id);
         let others = plot.others.iter().map(|other| other.root as u32);
         let mut sequence = Sequence {
-            chain,
-            registers: Registers::from_words(started.registers),
-            buffer: started.buffer,
             id,
             ids: others.filter(|&root| root < 63).chain([id]).collect(),
             pages: pages(random, &plot),
-            witnesses: Witnesses::begin(plot.words),
+            pooled: Pooled::begin(to, random, chain, plot.words),
             back: Vec::new(),
             gone: Vec::new(),
             page: 0,
-            run_is_kept: false,
         };
         for (number, value) in [(2, 1), (5, id), (1, random.bits(3))] {
             sequence.unit_call(to, Call::Setting { number, value }, Vec::new());
@@ -122,7 +110,7 @@ impl Sequence {
             0 => self.take(to),
             1 => self.give(to, random, true),
             2 => self.give(to, random, false),
-            3 => drop(self.chain.call(to, PoolCall::Held, Vec::new())),
+            3 => drop(self.pooled.chain.call(to, PoolCall::Held, Vec::new())),
             4..=9 => self.map(to, random),
             10..=13 => self.pass(to, self.id),
             14 => {
@@ -153,11 +141,11 @@ impl Sequence {
         }
         assert!(self.visits(self.id).is_empty(), "something is left");
         self.pass_known(to, self.id, vec![named(NOTHING_LEFT)]);
-        self.ask_for_words(to);
+        self.pooled.ask_for_words(to);
     }
 
     fn take(&mut self, to: &mut dyn PutJudged) {
-        self.chain.call(to, PoolCall::Take, Vec::new());
+        self.pooled.chain.call(to, PoolCall::Take, Vec::new());
     }
 
     /// Of a live frame that no own leaf maps, or of one that an own leaf maps.
@@ -167,7 +155,7 @@ impl Sequence {
             .iter()
             .map(|leaf| leaf.1 % PFNS)
             .collect();
-        let mut live = self.chain.ours.live_frames();
+        let mut live = self.pooled.chain.ours.live_frames();
         live.retain(|pfn| mapped.contains(pfn) != unmapped);
         if live.is_empty() {
             return;
@@ -177,14 +165,14 @@ impl Sequence {
             false => vec![named(MADE_FREE)],
         };
         let pfn = random.pick(&live);
-        self.chain.call(to, PoolCall::Give { pfn }, outcomes);
+        self.pooled.chain.call(to, PoolCall::Give { pfn }, outcomes);
     }
 
     /// A map at a page that has no leaf, where a frame is free.
     fn map(&mut self, to: &mut dyn PutJudged, random: &mut Random) {
         let (_, index) = random.pick(&self.pages);
-        let is_there = self.witnesses.reader.words()[index as usize] >= PRESENT;
-        let Some(pfn) = self.chain.ours.lowest_not_live() else {
+        let is_there = self.pooled.words()[index as usize] >= PRESENT;
+        let Some(pfn) = self.pooled.chain.ours.lowest_not_live() else {
             return;
         };
         if is_there && !random.one_in(16) {
@@ -192,42 +180,47 @@ impl Sequence {
         }
         let leaf = random.bits(32) | random.pick(&[0, VALID, VALID]);
         let call = PoolCall::Map { index, leaf };
-        let request = self.pool_request(call);
+        let request = self.pooled.request_on_pool(call);
         let store = (index, mapped_word(leaf, pfn));
         let look_at = LookAt::One(self.page);
-        let witness = self.witnesses.hear_store_of_map(&request, store, look_at);
+        let witness = self
+            .pooled
+            .witnesses
+            .hear_store_of_map(&request, store, look_at);
         let outcomes = match self.back.contains(&pfn) {
             true => vec![named(MAPPED_AGAIN)],
             false => Vec::new(),
         };
-        self.put_on_pool(to, witness, outcomes, request);
+        self.pooled.put_on_pool(to, witness, outcomes, request);
     }
 
     /// A pass, by what the reader's words say of it.
     fn pass(&mut self, to: &mut dyn PutJudged, id: u32) {
         let mut outcomes = Vec::new();
-        if id != self.registers.context {
+        if id != self.pooled.registers.context {
             outcomes.push(named(OF_ANOTHER));
         }
         self.pass_known(to, id, outcomes);
     }
 
     fn pass_known(&mut self, to: &mut dyn PutJudged, id: u32, mut outcomes: Vec<String>) {
-        let request = self.pool_request(PoolCall::Collect { id });
+        let request = self.pooled.request_on_pool(PoolCall::Collect { id });
         if !self.grounds(id).is_empty() {
-            self.chain.expect_back(Vec::new());
+            self.pooled.chain.expect_back(Vec::new());
             outcomes.push(refused(12));
-            return self.put_on_pool(to, Witness::of_refusal(12), outcomes, request);
+            return self
+                .pooled
+                .put_on_pool(to, Witness::of_refusal(12), outcomes, request);
         }
         let visits = self.visits(id);
-        let (aged, gone): (Vec<(u32, u32)>, Vec<(u32, u32)>) =
-            visits.iter().partition(|leaf| leaf.1 & VALID != 0);
+        let mut gone = visits.clone();
+        gone.retain(|(_, word)| word & VALID == 0);
         let frames: Vec<u32> = gone.iter().map(|leaf| leaf.1 % PFNS).collect();
         let stores: Vec<(u32, u32)> = visits
             .iter()
             .map(|&(index, word)| (index, aged_or_gone(word)))
             .collect();
-        let come_to = (!aged.is_empty(), !gone.is_empty());
+        let come_to = (gone.len() < visits.len(), !gone.is_empty());
         let name = COME_TO
             .iter()
             .find(|(ages, takes, _)| (*ages, *takes) == come_to);
@@ -237,12 +230,13 @@ impl Sequence {
             let page = self.pages.iter().find(|(_, leaf)| *leaf == index);
             self.gone.extend(page.map(|(page, _)| *page));
         }
-        self.chain.expect_back(frames);
+        self.pooled.chain.expect_back(frames);
         let look_at = LookAt::One(self.page);
         let witness = self
+            .pooled
             .witnesses
             .hear_stores_of_pass(&request, &stores, look_at);
-        self.put_on_pool(to, witness, outcomes, request);
+        self.pooled.put_on_pool(to, witness, outcomes, request);
     }
 
     /// A pass that is refused before the tree is looked at. Where it is handed another run, the
@@ -252,22 +246,23 @@ impl Sequence {
         if grounds != [3] {
             grounds.retain(|&ground| ground != 3);
         } else {
-            self.ask_for_words(to);
+            self.pooled.ask_for_words(to);
         }
         let id = match grounds.contains(&5) {
             true => random.pick(&[63, 64, u32::MAX]),
             false => self.id,
         };
-        let mut request = self.pool_request(PoolCall::Collect { id });
-        let length = self.witnesses.reader.words().len();
+        let mut request = self.pooled.request_on_pool(PoolCall::Collect { id });
+        let length = self.pooled.words().len();
         spoil::spoil(random, &mut request, length, &grounds);
-        self.run_is_kept = !grounds.contains(&3);
+        self.pooled.run_is_kept = !grounds.contains(&3);
         let Some(&number) = grounds.first() else {
             return;
         };
-        self.chain.expect_back(Vec::new());
+        self.pooled.chain.expect_back(Vec::new());
         let witness = Witness::of_refusal(number);
-        self.put_on_pool(to, witness, vec![refused(number)], request);
+        self.pooled
+            .put_on_pool(to, witness, vec![refused(number)], request);
     }
 
     /// What a handler does with an aged page that is used again.
@@ -286,7 +281,7 @@ impl Sequence {
         let mut seen = Vec::new();
         for (index, word) in self.visits(self.id) {
             let pfn = word % PFNS;
-            let is_held = self.chain.ours.live_frames().contains(&pfn);
+            let is_held = self.pooled.chain.ours.live_frames().contains(&pfn);
             if !is_held || seen.contains(&pfn) {
                 let value = word & !PRESENT;
                 self.unit_call(to, Call::Store { index, value }, Vec::new());
@@ -320,19 +315,12 @@ impl Sequence {
     }
 
     fn unit_call(&mut self, to: &mut dyn PutJudged, call: Call, mut outcomes: Vec<String>) {
-        let request = self.request(call);
-        let witness = self.witnesses.hear(&request, LookAt::One(self.page));
+        let request = self.pooled.request(call);
+        let witness = self.pooled.witnesses.hear(&request, LookAt::One(self.page));
         if let Told::Access { said, .. } = witness.told {
             outcomes.extend(self.of_access(said).map(named));
         }
-        let judges = Judges {
-            witness: Some(witness),
-            outcomes,
-            ..Judges::default()
-        };
-        let answer = to.put_judged(judges, request);
-        self.registers = Registers::from_words(answer.registers);
-        self.buffer = answer.buffer;
+        self.pooled.put_unit_call(to, witness, outcomes, request);
     }
 
     /// What an access shows of the passes before it.
@@ -340,9 +328,9 @@ impl Sequence {
         let Said::Fault(value) = said else {
             return None;
         };
-        let is_own = self.registers.context == self.id;
+        let is_own = self.pooled.registers.context == self.id;
         match value {
-            8 | 4..=7 if is_own => Some(AGED_FAULTS),
+            4..=8 if is_own => Some(AGED_FAULTS),
             0x310 if is_own && self.gone.contains(&self.page) => Some(GONE_FAULTS),
             _ => None,
         }
@@ -350,66 +338,21 @@ impl Sequence {
 
     /// The index and the word of each leaf that a pass visits, by the reader's words.
     fn visits(&self, id: u32) -> Vec<(u32, u32)> {
-        by_tables::leaves(self.witnesses.reader.words(), id)
+        by_tables::leaves(self.pooled.words(), id)
             .iter()
-            .filter(|leaf| self.chain.pool.place_of(leaf.word % PFNS).is_some())
+            .filter(|leaf| self.pooled.chain.pool.place_of(leaf.word % PFNS).is_some())
             .map(|leaf| (leaf.index as u32, leaf.word))
             .collect()
     }
 
-    fn grounds(&self, id: u32) -> Vec<reference::collector::Unfit> {
-        let words = self.witnesses.reader.words();
-        grounds(words, &self.chain.pool, id, &by_tables::leaves(words, id))
-    }
-
-    fn pool_request(&mut self, call: PoolCall) -> Request {
-        let pool = Some(Box::new(self.chain.pool));
-        Request {
-            pool,
-            ..self.request(Call::OnPool(call))
-        }
-    }
-
-    fn put_on_pool(
-        &mut self,
-        to: &mut dyn PutJudged,
-        witness: Witness,
-        outcomes: Vec<String>,
-        request: Request,
-    ) {
-        let judges = Judges {
-            witness: Some(witness),
-            outcomes,
-            ..Judges::default()
-        };
-        let answer: Answer = self.chain.put(to, judges, request);
-        if answer.words[0] == DONE {
-            self.buffer = answer.buffer;
-        }
-    }
-
-    /// A request with the unit as it is; the run goes along where the program has another.
-    fn request(&mut self, call: Call) -> Request {
-        let tables = match self.run_is_kept {
-            true => Vec::new(),
-            false => self.witnesses.reader.words().to_vec(),
-        };
-        self.run_is_kept = true;
-        Request {
-            tables,
-            ..Request::without_run(call, self.registers, self.buffer.clone())
-        }
-    }
-
-    fn ask_for_words(&mut self, to: &mut dyn PutJudged) {
-        let request = self.request(Call::Tables);
-        let pages = (0..SLOTS).map(|slot| self.witnesses.page_of(slot));
-        let look_at = LookAt::AllTouched(pages.collect());
-        let judges = Judges {
-            witness: Some(self.witnesses.hear_of_words(look_at)),
-            ..Judges::default()
-        };
-        to.put_judged(judges, request);
+    fn grounds(&self, id: u32) -> Vec<Unfit> {
+        let words = self.pooled.words();
+        grounds(
+            words,
+            &self.pooled.chain.pool,
+            id,
+            &by_tables::leaves(words, id),
+        )
     }
 }
 

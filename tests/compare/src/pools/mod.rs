@@ -11,6 +11,7 @@ mod fill;
 pub mod history;
 mod maps;
 pub mod outcome;
+pub mod pooled;
 mod sequence;
 pub mod shapes;
 

@@ -72,7 +72,7 @@ pub fn ways() -> Vec<Way> {
         }
         let name = format!("{name} names the last one inside");
         ways.push(Way::accepted(name, move |random| {
-            let last = |_, outside| PRESENT | outside as u32 - 1;
+            let last = |_, outside| PRESENT | (outside as u32 - 1);
             Some(with(random, word, last))
         }));
     }

@@ -110,7 +110,7 @@ pub fn ways() -> Vec<Way> {
     ways.push(Way::accepted(to_itself, |random| {
         share(random, |plot, (root, _), _| {
             let directory = plot.words[root] & 0xFFFF;
-            plot.words[DIRECTORY_WORDS * directory as usize] = PRESENT | directory / 2;
+            plot.words[DIRECTORY_WORDS * directory as usize] = PRESENT | (directory / 2);
         })
     }));
     let twice = "two words of another root's directory name one table";

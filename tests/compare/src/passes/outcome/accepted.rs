@@ -1,8 +1,8 @@
 //! Outcomes of accepted passes: who asks, over what, and how much comes of it.
 
-use super::visited::Visit;
 use super::{how_many, those_that_hold, CALL};
 use crate::outcome::{refused, Runs};
+use crate::passes::visit::Visit;
 use crate::pools::outcome::shape;
 use crate::protocol::{Answer, Request};
 use reference::collector::{by_tables, Stretches};

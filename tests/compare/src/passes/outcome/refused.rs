@@ -22,7 +22,7 @@ const WOULD_STORE: &str = "pass refused 12, a leaf is in the pool";
 const WOULD_SWEEP: &str = "pass refused 12, a sweep would empty slots";
 
 pub fn all() -> Vec<String> {
-    let mut all = all_sets_of_grounds();
+    let mut all = refused::all_sets_of_named(CALL, &GROUNDS);
     all.extend(shape::all_misfits(CALL));
     all.extend(refused::all_fields(CALL));
     all.extend(refused::all_lengths(CALL));
@@ -30,15 +30,6 @@ pub fn all() -> Vec<String> {
     all.extend(IDS.map(by_id));
     all.extend([NO_WORDS, SEVERAL, WOULD_STORE, WOULD_SWEEP].map(String::from));
     all
-}
-
-fn all_sets_of_grounds() -> Vec<String> {
-    (1..1u32 << GROUNDS.len())
-        .map(|set| {
-            let chosen = (0..GROUNDS.len()).filter(|n| set >> n & 1 == 1);
-            refused_on(&chosen.map(|n| GROUNDS[n]).collect::<Vec<&str>>())
-        })
-        .collect()
 }
 
 pub fn of(request: &Request, id: u32, words: &[u32], expected: &Answer) -> Vec<String> {
@@ -57,15 +48,12 @@ pub fn of(request: &Request, id: u32, words: &[u32], expected: &Answer) -> Vec<S
         },
     ];
     let numbers = refused::grounds(&checks);
-    let given: Vec<&str> = (0..GROUNDS.len())
-        .filter(|&n| checks[n].is_err())
-        .map(|n| GROUNDS[n])
-        .collect();
+    let given = refused::named_grounds(&GROUNDS, &checks);
     assert_eq!(numbers.first(), Some(&expected.words[1]));
-    let mut outcomes = vec![refused_on(&given)];
+    let mut outcomes = vec![refused::refused_on(CALL, &given)];
     outcomes.extend(refused::of_fields(CALL, registers, &numbers));
     outcomes.extend(refused::of_length(CALL, buffer, &numbers));
-    outcomes.extend(refused::of_run(CALL, words.len(), &numbers).into_iter());
+    outcomes.extend(refused::of_run(CALL, words.len(), &numbers));
     match given[..] {
         [BY_POOL] => outcomes.push(shape::misfit(CALL, pool.first, pool.size)),
         ["5"] if IDS.contains(&id) => outcomes.push(by_id(id)),
@@ -99,11 +87,6 @@ fn unfit(request: &Request, id: u32, words: &[u32]) -> Vec<Unfit> {
         Ok(()) => grounds(words, request.pool(), id, &leaves),
         Err(_) => grounds(words, &new_pool(0, 1).1, id, &[]),
     }
-}
-
-fn refused_on(grounds: &[&str]) -> String {
-    let number = grounds[0].split(' ').next().unwrap_or_default();
-    format!("{CALL} refused {number}, grounds {}", grounds.join(", "))
 }
 
 fn by_id(id: u32) -> String {

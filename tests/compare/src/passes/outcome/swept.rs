@@ -1,7 +1,7 @@
 //! What the sweeps of an accepted pass do with the slots, store by store.
 
-use super::visited::Visit;
 use super::{those_that_hold, Point};
+use crate::passes::visit::Visit;
 use crate::protocol::Request;
 use reference::collector::aged_or_gone;
 use reference::*;

@@ -2,30 +2,12 @@
 
 use super::{those_that_hold, Point};
 use crate::cases::forest::{PRESENT, TABLE_WORDS};
-use crate::passes::plot::VALID;
+use crate::passes::visit::Visit;
 use crate::pools::outcome::shape;
 use crate::protocol::Request;
 use reference::collector::{by_tables, Stretches, PAGES};
 use reference::heap::PFNS;
 use reference::*;
-
-/// A leaf that an accepted pass visits.
-#[derive(Clone, Copy)]
-pub struct Visit {
-    pub page: u32,
-    pub index: usize,
-    pub word: u32,
-}
-
-impl Visit {
-    pub fn is_valid(&self) -> bool {
-        self.word & VALID != 0
-    }
-
-    fn pfn(&self) -> u32 {
-        self.word % PFNS
-    }
-}
 
 /// All of them, in their order.
 pub fn visits(request: &Request, id: u32, words: &[u32]) -> Vec<Visit> {
@@ -94,8 +76,8 @@ pub fn of(request: &Request, id: u32, words: &[u32], visits: &[Visit]) -> Vec<St
     for visit in visits {
         let kind = KINDS[usize::from(!visit.is_valid())];
         let holds = points(words, visit).into_iter().zip(POINTS);
-        let holds = holds.filter_map(|(holds, point)| holds.then(|| named(kind, point)));
-        outcomes.extend(holds);
+        let holds = holds.filter(|(holds, _)| *holds);
+        outcomes.extend(holds.map(|(_, point)| named(kind, point)));
         let place = visit.pfn() - pool.first;
         outcomes.extend(shape::places(&format!("pass {kind}"), pool, place));
     }

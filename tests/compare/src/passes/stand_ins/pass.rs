@@ -3,7 +3,8 @@
 use super::fault::Fault;
 use super::order::{refusal, root_of};
 use super::tree::Tree;
-use super::visit::{stored, visits, Visit};
+use super::visit::{stored, visits};
+use crate::passes::visit::Visit;
 use reference::collector::Pass;
 use reference::heap::Pool;
 use reference::*;

@@ -4,29 +4,13 @@ use super::fault::Fault;
 use super::tree::Tree;
 use crate::cases::forest::{PRESENT, TABLE_WORDS};
 use crate::passes::plot::VALID;
-use reference::heap::{Pool, PFNS};
+use crate::passes::visit::Visit;
+use reference::heap::Pool;
 use reference::{walk, walk_tree, Walk};
 
 const KERNEL: u32 = 1 << 29;
 const WE: u32 = 1 << 28;
 const SOFTWARE: u32 = 0x1FF << 19;
-
-#[derive(Clone, Copy)]
-pub struct Visit {
-    pub page: u32,
-    pub index: usize,
-    pub word: u32,
-}
-
-impl Visit {
-    pub fn is_valid(&self) -> bool {
-        self.word & VALID != 0
-    }
-
-    pub fn pfn(&self) -> u32 {
-        self.word % PFNS
-    }
-}
 
 /// In their order.
 pub fn visits(fault: Fault, words: &[u32], pool: &Pool, root: u32) -> Vec<Visit> {
