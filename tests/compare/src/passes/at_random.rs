@@ -1,8 +1,9 @@
 //! Passes over trees of all kinds, most of which are fit.
 
 use super::known::{handed_on, put_one};
-use super::plot::{any_id, any_leaf, any_place, broken, leaf_at, Plot};
+use super::plot::{any_id, leaf_at, Plot};
 use super::slots;
+use super::words::{any_leaf, any_place, broken};
 use crate::cases::forest::{number_inside, Forest, DIRECTORY_WORDS, PRESENT, TABLE_WORDS};
 use crate::expected::DONE;
 use crate::pools::shapes;

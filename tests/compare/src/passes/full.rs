@@ -1,8 +1,9 @@
 //! Passes over as many pages as a pool has frames.
 
 use super::known::{handed_on, put_one};
-use super::plot::{any_id, leaf, leaf_at, Plot};
+use super::plot::{any_id, leaf_at, Plot};
 use super::slots;
+use super::words::leaf;
 use crate::cases::forest::TABLE_WORDS;
 use crate::expected::DONE;
 use crate::pools::shapes;

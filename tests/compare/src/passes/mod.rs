@@ -16,6 +16,7 @@ mod sequence;
 mod slots;
 pub mod stand_ins;
 mod visit;
+mod words;
 
 use crate::put::PutJudged;
 use crate::random::Random;

@@ -1,7 +1,8 @@
 //! Passes that are refused before their tree is looked at, and the order of the grounds.
 
 use super::known::put_one;
-use super::plot::{absent, any_id, broken, Plot};
+use super::plot::{any_id, Plot};
+use super::words::{absent, broken};
 use crate::cases::forest::TABLE_WORDS;
 use crate::cases::tables::ask_for_tables;
 use crate::cases::{spoil, state};

@@ -1,7 +1,8 @@
 //! Sequences of a unit and a pool with passes between: maps fill a tree, accesses load its pages,
 //! and passes age and take them away until nothing is left.
 
-use super::plot::{any_id, any_place, Plot, VALID};
+use super::plot::{any_id, Plot};
+use super::words::{any_place, VALID};
 use crate::cases::forest::PRESENT;
 use crate::cases::{spoil, state};
 use crate::pools::chain::Chain;

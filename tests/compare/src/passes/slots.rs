@@ -1,7 +1,8 @@
 //! Buffers for a pass: entries that agree with the leaves, that will agree once they are aged, that
 //! never do, and entries that have nothing to do with the pass.
 
-use super::plot::{Plot, VALID};
+use super::plot::Plot;
+use super::words::VALID;
 use crate::cases::forest::PRESENT;
 use crate::cases::scene::entry_of;
 use crate::cases::state;
@@ -26,8 +27,10 @@ pub fn any(random: &mut Random, plot: &Plot) -> Vec<u64> {
                 1 => aged(tree.root as u32, page, plot.words[index]),
                 _ => agreeing(&plot.words, tree.root as u32, page),
             };
-            let set = random.below(SETS);
-            buffer[slot(set, location(page))] = entry.pack() | state::high_bits(random);
+            for _ in 0..random.pick(&[1, 1, 1, 3]) {
+                let set = random.below(SETS);
+                buffer[slot(set, location(page))] = entry.pack() | state::high_bits(random);
+            }
         }
     }
     for _ in 0..random.pick(&[0, 0, 1, 4]) {

@@ -1,6 +1,6 @@
 //! A leaf that a pass visits.
 
-use super::plot::VALID;
+use super::words::VALID;
 use reference::heap::PFNS;
 
 #[derive(Clone, Copy)]

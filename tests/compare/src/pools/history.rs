@@ -351,4 +351,30 @@ mod tests {
         assert_eq!(against(PoolCall::Held, DONE, 2, pool), [HELD, COUNTED]);
         assert_eq!(against(PoolCall::Held, REFUSED, 1, pool), [HELD, COUNTED]);
     }
+
+    #[test]
+    fn a_pass_gives_back_what_it_has_to() {
+        let mut told = Told::begin();
+        for _ in 0..2 {
+            told.go(PoolCall::Take);
+        }
+        let against = |word, given, pool| {
+            let mut history = told.history.clone();
+            history.expect_back(vec![8]);
+            let (request, mut got) = told.asked(PoolCall::Collect { id: 5 }, [word, 0], pool);
+            got.words[3] = given;
+            let points = history.hear(&request, &got).into_iter();
+            points
+                .filter_map(|(point, holds)| (!holds).then_some(point))
+                .collect::<Vec<&str>>()
+        };
+        let back = told.pool.with_other_bit(1);
+        assert_eq!(against(DONE, 1, back), [""; 0]);
+        assert_eq!(against(DONE, 0, back), [BACK, BALANCE]);
+        assert_eq!(against(DONE, 1, told.pool), [BITS, BALANCE]);
+        let another = told.pool.with_other_bit(0);
+        assert_eq!(against(DONE, 1, another), [BITS]);
+        assert_eq!(against(REFUSED, 0, told.pool), [""; 0]);
+        assert_eq!(against(REFUSED, 1, told.pool), [BACK]);
+    }
 }

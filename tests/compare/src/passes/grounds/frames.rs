@@ -2,7 +2,8 @@
 
 use super::Way;
 use crate::cases::forest::{DIRECTORY_WORDS, PRESENT, TABLE_WORDS};
-use crate::passes::plot::{any_id, any_place, leaf, leaf_at, Plot};
+use crate::passes::plot::{any_id, leaf_at, Plot};
+use crate::passes::words::{any_place, leaf};
 use crate::pools::shapes;
 use crate::random::Random;
 use reference::collector::Unfit;

@@ -3,8 +3,9 @@
 use super::frames::unmapped;
 use super::Way;
 use crate::cases::forest::{DIRECTORY_WORDS, PRESENT, TABLE_WORDS};
-use crate::passes::plot::{any_leaf, any_place, broken, leaf, leaf_at, Plot};
+use crate::passes::plot::{leaf_at, Plot};
 use crate::passes::slots;
+use crate::passes::words::{any_leaf, any_place, broken, leaf};
 use crate::pools::shapes;
 use crate::random::Random;
 use reference::collector::Unfit;

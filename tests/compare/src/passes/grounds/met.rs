@@ -2,7 +2,8 @@
 
 use super::Way;
 use crate::cases::forest::{DIRECTORY_WORDS, PRESENT, TABLE_WORDS};
-use crate::passes::plot::{any_place, broken, Plot};
+use crate::passes::plot::Plot;
+use crate::passes::words::{any_place, broken};
 use crate::random::Random;
 use reference::collector::Unfit;
 use reference::GLOBAL_ROOT;

@@ -22,8 +22,12 @@ const SEVERAL_STORES: &str = "pass, several stores empty slots";
 const NOT_THE_LAST: &str = "pass, an earlier store empties slots, the last one none";
 const NOT_THE_FIRST: &str = "pass, a later store empties slots, the first one none";
 const NONE_OF_MANY: &str = "pass, several stores, none empties a slot";
+const STORE_NONE: &str = "pass, a store empties no slot";
+const STORE_ONE: &str = "pass, a store empties one slot";
+const STORE_SEVERAL: &str = "pass, a store empties several slots";
+const LATER_SEVERAL: &str = "pass, a later store empties several slots";
 
-const POINTS: [&str; 16] = [
+const POINTS: [&str; 20] = [
     ALL_ALONG,
     FROM_FIRST_ON,
     AT_THE_END,
@@ -40,6 +44,10 @@ const POINTS: [&str; 16] = [
     NOT_THE_LAST,
     NOT_THE_FIRST,
     NONE_OF_MANY,
+    STORE_NONE,
+    STORE_ONE,
+    STORE_SEVERAL,
+    LATER_SEVERAL,
 ];
 
 pub fn all() -> Vec<String> {
@@ -96,6 +104,10 @@ fn of_stores(emptied: &[u32]) -> Vec<Point> {
         (NOT_THE_LAST, stores > 0 && emptied.last() == Some(&0)),
         (NOT_THE_FIRST, stores > 0 && emptied[0] == 0),
         (NONE_OF_MANY, stores == 0 && emptied.len() > 1),
+        (STORE_NONE, emptied.contains(&0)),
+        (STORE_ONE, emptied.contains(&1)),
+        (STORE_SEVERAL, emptied.iter().any(|&slots| slots > 1)),
+        (LATER_SEVERAL, emptied[1..].iter().any(|&slots| slots > 1)),
     ]
 }
 

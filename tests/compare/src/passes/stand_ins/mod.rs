@@ -4,7 +4,10 @@
 //! others have.
 
 mod fault;
+mod frames;
 mod order;
+mod others;
+mod own;
 mod pass;
 mod tree;
 #[cfg(test)]

@@ -44,7 +44,7 @@ pub fn collect(fault: Fault, lent: Lent, pool: Pool, id: u32) -> (Pass, Pool) {
         ));
         given += give(fault, &mut pool, visit);
     }
-    let has_directory = Tree::of(fault, words, root).directory().is_some();
+    let has_directory = Tree::of(fault, words, root).directory.is_some();
     let sweeps_anyway = match fault {
         Fault::SweepWithoutVisits => visits.is_empty() && has_directory,
         Fault::SweepOfAbsentRoot => !has_directory,
@@ -101,16 +101,17 @@ fn refused(
     };
     let mut pool = pool;
     let is_of_tree = refusal == Refusal::Tree;
+    let is_early = !is_of_tree && buffer.len() == SLOTS && check_tables(words.len()).is_ok();
     match fault {
         Fault::RefusedSweeps if is_of_tree => drop(sweep(&mut *buffer, &words[..])),
+        Fault::RefusedEarlySweeps if is_early => drop(sweep(&mut *buffer, &words[..])),
+        Fault::RefusedEarlyStores if is_early => store_all(fault, words, &pool, (root, usize::MAX)),
         Fault::RefusedStores | Fault::RefusedStoresFirstLeaf if is_of_tree => {
             let most = match fault {
                 Fault::RefusedStores => usize::MAX,
                 _ => 1,
             };
-            for visit in visits(fault, words, &pool, root).iter().take(most) {
-                words[visit.index] = stored(fault, visit);
-            }
+            store_all(fault, words, &pool, (root, most));
         }
         Fault::RefusedGives if is_of_tree => {
             for visit in visits(fault, words, &pool, root) {
@@ -126,6 +127,13 @@ fn refused(
         _ => {}
     }
     (pass, pool)
+}
+
+/// Stores so many of the leaves at the most, without a sweep.
+fn store_all(fault: Fault, words: &mut [u32], pool: &Pool, (root, most): (u32, usize)) {
+    for visit in visits(fault, words, pool, root).iter().take(most) {
+        words[visit.index] = stored(fault, visit);
+    }
 }
 
 /// The slots that the sweep after a store empties.

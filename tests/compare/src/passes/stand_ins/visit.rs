@@ -3,8 +3,8 @@
 use super::fault::Fault;
 use super::tree::Tree;
 use crate::cases::forest::{PRESENT, TABLE_WORDS};
-use crate::passes::plot::VALID;
 use crate::passes::visit::Visit;
+use crate::passes::words::VALID;
 use reference::heap::Pool;
 use reference::{walk, walk_tree, Walk};
 
