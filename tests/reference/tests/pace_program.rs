@@ -92,8 +92,8 @@ fn the_first_maps_empty_a_slot_each_and_all_map_the_lowest_free_frame() {
     assert_eq!(sum(6, 6400), Some(100 * once + 64));
 }
 
-/// What two passes and the maps of these pages add: the pages are aged, and nothing is emptied; they
-/// are given back; each is mapped to its frame again.
+/// What two passes and the maps of these pages add: the pages are aged, and nothing is emptied;
+/// they are given back; each is mapped to its frame again.
 fn round(pages: u64) -> u64 {
     let maps: u64 = (256..256 + pages).map(|pfn| pfn + 1).sum();
     1 + (1 + pages) + maps

@@ -90,3 +90,31 @@ fn tweak(random: &mut Random, plot: &mut Plot) {
         }
     }
 }
+
+#[cfg(test)]
+mod tests {
+    use super::*;
+    use crate::expected::words_of_reply_with;
+    use reference::collector::{by_tables, collect};
+
+    #[test]
+    fn both_ways_of_the_second_program_agree_over_these_trees() {
+        let mut random = Random::new(1);
+        for _ in 0..400 {
+            let mut plot = any(&mut random);
+            let (mut buffer, mut words) = (plot.buffer.clone(), plot.words.clone());
+            let (pass, pool) = collect(plot.registers, &mut buffer, &mut words, plot.pool, plot.id);
+            let quick = by_tables::collect(
+                plot.registers,
+                &mut plot.buffer,
+                &mut plot.words,
+                &mut plot.pool,
+                plot.id,
+            );
+            let plain = words_of_reply_with(pass.reply, pass.given);
+            assert_eq!(words_of_reply_with(quick.reply, quick.given), plain);
+            assert_eq!(plot.pool, pool);
+            assert_eq!((plot.buffer, plot.words), (buffer, words));
+        }
+    }
+}

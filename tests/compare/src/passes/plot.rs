@@ -227,7 +227,7 @@ impl Plot {
     }
 
     /// A leaf in a table, mostly of a frame that no other leaf of the tree maps.
-    fn plant(&mut self, random: &mut Random, table: usize) {
+    pub fn plant(&mut self, random: &mut Random, table: usize) {
         let index = leaf_at(table, any_place(random, TABLE_WORDS));
         if self.words[index] >= PRESENT {
             return;

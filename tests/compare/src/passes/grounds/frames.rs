@@ -126,7 +126,8 @@ pub fn unmapped(random: &mut Random) -> Plot {
     plot
 }
 
-/// Two leaves of one frame, the second with this present bit.
+/// Two leaves of one frame, the second with this present bit, and in some other leaves beside them
+/// and between.
 fn mapped_twice(
     random: &mut Random,
     (in_one, first, second, _): (bool, usize, usize, &str),
@@ -141,6 +142,13 @@ fn mapped_twice(
     let (_, upper) = *tables.get(usize::from(!in_one))?;
     plot.words[leaf_at(lower, first)] = leaf(random, first_valid, pfn);
     plot.words[leaf_at(upper, second)] = leaf(random, second_valid, pfn) & !PRESENT | present;
+    if plot.pool.place_of(pfn).is_some() {
+        plot.hold(pfn);
+    }
+    for _ in 0..random.below(6) {
+        let table = plot.table(random);
+        plot.plant(random, table);
+    }
     Some(plot)
 }
 

@@ -215,7 +215,8 @@ fn met_by(
     Some(plot)
 }
 
-/// A directory of the root's, none of its words present, that does not lie in this table.
+/// A directory of the root's that does not lie in this table. Its words are absent or name tables
+/// that are free.
 fn other_directory(
     random: &mut Random,
     plot: &mut Plot,
@@ -226,9 +227,14 @@ fn other_directory(
     if directory / 2 == apart_from && apart_from > 0 {
         return None;
     }
+    let begin = DIRECTORY_WORDS * directory;
     plot.words[root] = PRESENT | directory as u32;
-    plot.clear(random, DIRECTORY_WORDS * directory, DIRECTORY_WORDS);
-    Some(DIRECTORY_WORDS * directory)
+    plot.clear(random, begin, DIRECTORY_WORDS);
+    for _ in 0..random.below(3) {
+        let table = plot.room.table(random)?;
+        plot.words[begin + any_place(random, DIRECTORY_WORDS)] = PRESENT | table as u32;
+    }
+    Some(begin)
 }
 
 /// Two other roots, the first of which has a directory, and a free table, and what is made of them.

@@ -41,8 +41,8 @@ pub fn ways() -> Vec<Way> {
     ways
 }
 
-/// Two words at these places and, in some, one more between them; the second names what is chosen of
-/// the first one's table and another.
+/// Two words at these places and, in some, one more between them; the second names what is chosen
+/// of the first one's table and another.
 fn of_pair(
     random: &mut Random,
     (first, second): (usize, usize),

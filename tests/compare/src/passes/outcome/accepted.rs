@@ -22,6 +22,7 @@ const ABSENT_DIRTY: &str = "pass accepted, absent root, a sweep would empty slot
 const NO_TABLE: &str = "pass accepted, directory without a table";
 const NO_VISIT_DIRTY: &str = "pass accepted, no leaf in the pool, a sweep would empty slots";
 const BROKEN_OTHER: &str = "pass accepted, another root is broken";
+const ALL_64: &str = "pass empties 64 slots";
 const GLOBAL_TREE: &str = "pass accepted, beside a global tree";
 
 pub fn all() -> Vec<String> {
@@ -45,6 +46,7 @@ pub fn all() -> Vec<String> {
             NO_VISIT_DIRTY,
             BROKEN_OTHER,
             GLOBAL_TREE,
+            ALL_64,
         ]
         .map(String::from),
     );
@@ -83,6 +85,7 @@ pub fn of(
     let context = registers.context;
     outcomes.extend(those_that_hold([
         (TEST_MODE, registers.test == 1),
+        (ALL_64, expected.words[1] == SLOTS as u32),
         (UNDER_63, context == 63),
         (UNDER_ITSELF, context == id),
         (

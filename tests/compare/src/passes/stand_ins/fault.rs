@@ -73,6 +73,7 @@ faults! {
     TwiceNotWithLastWord,
     TwiceThoughAbsent,
     TwiceOfEmptyTablePasses,
+    TwiceWithPreviousOnly,
     JudgedWithVisitsOnly,
     HiddenBrokenWordPasses,
     OverlapPasses,
@@ -81,6 +82,8 @@ faults! {
     OverlapByFirstWordPasses,
     OverlapByLastWordPasses,
     OverlapOfNeighboursRefused,
+    OverlapOfFirstTableOnly,
+    OverlapOfLastTableOnly,
 
     // Other trees.
     MetPasses,
@@ -107,6 +110,11 @@ faults! {
     OtherOfNumber1Ignored,
     OtherOfLastInsideIgnored,
     MetEmptyTablePasses,
+    MetOfFirstTableOnly,
+    MetOfLastTableOnly,
+    MetByFirstTableOnly,
+    MetByLastTableOnly,
+    OtherEndsAtAbsentWord,
 
     // The frames.
     FrameTwicePasses,
@@ -131,6 +139,8 @@ faults! {
     LastFrameFreePasses,
     HiddenTwicePasses,
     HiddenFreePasses,
+    FrameTwiceWithPreviousOnly,
+    FramesEndAtLeafOutside,
 
     // Which leaves are visited, and in which order.
     ContextInsteadOfId,
@@ -159,6 +169,9 @@ faults! {
     PoolLastLeft,
     FramesAtBit0Left,
     EveryLeafVisited,
+    EndsAtLeafOutside,
+    EndsAtAbsentLeaf,
+    EndsAtAbsentWord,
 
     // What becomes of a leaf and its frame.
     ValidLosesPresent,

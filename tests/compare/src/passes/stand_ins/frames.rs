@@ -8,12 +8,22 @@ use reference::heap::{Pool, PFNS};
 
 impl Tree<'_> {
     pub fn frames_refused(&self, pool: &Pool) -> bool {
-        let leaves = self.leaves();
+        let mut leaves = self.leaves();
+        if self.fault == Fault::FramesEndAtLeafOutside {
+            let is_outside = |leaf: &(usize, u32)| pool.place_of(leaf.1 % PFNS).is_none();
+            let end = leaves.iter().position(is_outside);
+            leaves.truncate(end.unwrap_or(leaves.len()));
+        }
         let all = Tree::of(Fault::None, self.words, self.id as u32).leaves();
         let of_others = self.leaves_of_others();
         let is_twice = |a: &(usize, u32), b: &(usize, u32)| {
             a.0 != b.0 && a.1 % PFNS == b.1 % PFNS && self.twice_counts(pool, *a, *b)
         };
+        if self.fault == Fault::FrameTwiceWithPreviousOnly {
+            let is_free = |leaf: &(usize, u32)| self.free_counts(pool, leaf.1);
+            let is_pair = |pair: &[(usize, u32)]| is_twice(&pair[0], &pair[1]);
+            return leaves.windows(2).any(is_pair) || leaves.iter().any(is_free);
+        }
         let others_too = self.fault == Fault::FrameTwiceByOthersRefused;
         let twice_among = match self.fault {
             Fault::HiddenFreePasses => &all,

@@ -1,4 +1,5 @@
-//! Programs that stand in for the one under test: a right one, and ones with a fault in their passes.
+//! Programs that stand in for the one under test: a right one, and ones with a fault in their
+//! passes.
 //!
 //! Their passes are written by themselves, so that the right one shows that a fault is all that the
 //! others have.

@@ -46,8 +46,17 @@ impl Tree<'_> {
                 Named::Stretch(table) => tables.push(table),
                 Named::Broken if self.fault == Fault::OtherBrokenWordRefused => return None,
                 Named::Broken if self.fault == Fault::OtherEndsAtBrokenWord => break,
+                Named::Nothing if self.fault == Fault::OtherEndsAtAbsentWord => break,
                 Named::Nothing | Named::Broken => {}
             }
+        }
+        let first_begins = match self.fault {
+            Fault::MetByLastTableOnly => tables.len().saturating_sub(1),
+            _ => 0,
+        };
+        tables.drain(..first_begins);
+        if self.fault == Fault::MetByFirstTableOnly {
+            tables.truncate(1);
         }
         Some(tables)
     }
@@ -79,7 +88,12 @@ impl Tree<'_> {
     /// Whether another tree's directory or table meets an own stretch.
     fn meets(&self, (is_directory, other): &(bool, Range<usize>)) -> bool {
         let by_directory = self.directory.iter().any(|own| meet(own, other));
-        let by_table = self.tables.iter().any(|(_, own)| {
+        let tables = match (self.fault, &self.tables[..]) {
+            (Fault::MetOfFirstTableOnly, [first, ..]) => std::slice::from_ref(first),
+            (Fault::MetOfLastTableOnly, [.., last]) => std::slice::from_ref(last),
+            (_, all) => all,
+        };
+        let by_table = tables.iter().any(|(_, own)| {
             let counts = self.fault != Fault::MetEmptyTablePasses || self.has_leaf(own.clone());
             counts && meet(own, other)
         });

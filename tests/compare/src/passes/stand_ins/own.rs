@@ -27,6 +27,10 @@ impl Tree<'_> {
                 Fault::TwiceSideBySideOnly => a.0.abs_diff(b.0) == 1,
                 Fault::TwiceNotWithFirstWord => a.0 != 0 && b.0 != 0,
                 Fault::TwiceNotWithLastWord => a.0 != LAST_WORD && b.0 != LAST_WORD,
+                Fault::TwiceWithPreviousOnly => {
+                    let between = |other: &(usize, usize)| a.0 < other.0 && other.0 < b.0;
+                    a.0 < b.0 && !all.iter().any(between)
+                }
                 Fault::TwiceOfEmptyTablePasses => self.has_leaf(a.1..a.1 + TABLE_WORDS),
                 _ => true,
             };
@@ -39,6 +43,8 @@ impl Tree<'_> {
         let Some(directory) = &self.directory else {
             return false;
         };
+        let first = self.tables.first().map(|(place, _)| place);
+        let last = self.tables.last().map(|(place, _)| place);
         self.tables.iter().any(|(place, table)| {
             let meets = meet(directory, table);
             match self.fault {
@@ -50,6 +56,8 @@ impl Tree<'_> {
                 Fault::OverlapOfNeighboursRefused => {
                     meets || directory.end == table.start || table.end == directory.start
                 }
+                Fault::OverlapOfFirstTableOnly => meets && Some(place) == first,
+                Fault::OverlapOfLastTableOnly => meets && Some(place) == last,
                 _ => meets,
             }
         })

@@ -5,7 +5,7 @@ use super::tree::Tree;
 use crate::cases::forest::{PRESENT, TABLE_WORDS};
 use crate::passes::visit::Visit;
 use crate::passes::words::VALID;
-use reference::heap::Pool;
+use reference::heap::{Pool, PFNS};
 use reference::{walk, walk_tree, Walk};
 
 const KERNEL: u32 = 1 << 29;
@@ -15,8 +15,10 @@ const SOFTWARE: u32 = 0x1FF << 19;
 /// In their order.
 pub fn visits(fault: Fault, words: &[u32], pool: &Pool, root: u32) -> Vec<Visit> {
     let tree = Tree::of(fault, words, root);
+    let end = end(fault, &tree, pool);
     let mut visits: Vec<Visit> = tree
         .leaf_words()
+        .take(end)
         .filter_map(|(page, index)| found(fault, words, root, (page, index)))
         .filter(|visit| visit.word >= PRESENT && is_in(fault, pool, visit.pfn()))
         .filter(|visit| !is_left(fault, pool, visit))
@@ -50,6 +52,25 @@ pub fn visits(fault: Fault, words: &[u32], pool: &Pool, root: u32) -> Vec<Visit>
         _ => {}
     }
     visits
+}
+
+/// After how many leaf words the fault ends the pass.
+fn end(fault: Fault, tree: &Tree, pool: &Pool) -> usize {
+    let first = |is_end: &dyn Fn(u32) -> bool| {
+        let mut words = tree.leaf_words().map(|(_, index)| tree.words[index]);
+        words.position(is_end).unwrap_or(usize::MAX)
+    };
+    match fault {
+        Fault::EndsAtLeafOutside => {
+            first(&|word| word >= PRESENT && pool.place_of(word % PFNS).is_none())
+        }
+        Fault::EndsAtAbsentLeaf => first(&|word| word < PRESENT),
+        Fault::EndsAtAbsentWord => {
+            let in_a_row = |&(n, (place, _)): &(usize, &(usize, _))| n == *place;
+            TABLE_WORDS * tree.tables.iter().enumerate().take_while(in_a_row).count()
+        }
+        _ => usize::MAX,
+    }
 }
 
 /// The leaf of the page that the fault finds.
