@@ -51,7 +51,7 @@ pub fn refusal(
     fault: Fault,
     (registers, buffer, words): (Registers, &[u64], &[u32]),
     pool: &Pool,
-    id: u32,
+    (id, root): (u32, u32),
 ) -> Option<Refusal> {
     let check = |ground| match ground {
         Ground::Registers => registers_refused(fault, registers),
@@ -59,7 +59,7 @@ pub fn refusal(
         Ground::Buffer => check_buffer(buffer).is_err() && !buffer_is_taken(fault, buffer),
         Ground::Tables => check_tables(words.len()).is_err() && !run_is_taken(fault, words),
         Ground::Id => id_refused(fault, id),
-        Ground::Tree => tree_refused(fault, words, pool, id),
+        Ground::Tree => tree_refused(fault, words, pool, root),
     };
     let ground = order(fault).into_iter().find(|&ground| check(ground))?;
     Some(match ground {
@@ -129,7 +129,7 @@ pub fn root_of(fault: Fault, registers: Registers, id: u32) -> u32 {
 }
 
 /// Only a run that has the root, and a pool that has its bits, can be looked at.
-fn tree_refused(fault: Fault, words: &[u32], pool: &Pool, id: u32) -> bool {
-    let has_root = words.len() >= 64 && (id as usize) < words.len();
-    has_root && pool.size <= MOST_PLACES && Tree::of(fault, words, id).is_refused(pool)
+fn tree_refused(fault: Fault, words: &[u32], pool: &Pool, root: u32) -> bool {
+    let has_root = words.len() >= 64 && (root as usize) < words.len();
+    has_root && pool.size <= MOST_PLACES && Tree::of(fault, words, root).is_refused(pool)
 }

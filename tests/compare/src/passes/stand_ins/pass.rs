@@ -14,16 +14,8 @@ type Lent<'a> = (Registers, &'a mut [u64], &'a mut Vec<u32>);
 
 pub fn collect(fault: Fault, lent: Lent, pool: Pool, id: u32) -> (Pass, Pool) {
     let (registers, buffer, words) = lent;
-    let root = match id {
-        0..=62 => root_of(fault, registers, id),
-        _ => root_of(fault, registers, id).min(words.len().saturating_sub(1) as u32),
-    };
-    if let Some(refusal) = refusal(
-        fault,
-        (registers, buffer, words),
-        &pool,
-        judged(fault, id, root),
-    ) {
+    let root = root_of(fault, registers, id);
+    if let Some(refusal) = refusal(fault, (registers, buffer, words), &pool, (id, root)) {
         return refused(fault, (registers, buffer, words), pool, (root, refusal));
     }
     let mut pool = pool;
@@ -79,15 +71,6 @@ pub fn collect(fault: Fault, lent: Lent, pool: Pool, id: u32) -> (Pass, Pool) {
     (pass, pool)
 }
 
-/// The identification that is judged: a cut one by itself, else that of the tree that is gone over.
-fn judged(fault: Fault, id: u32, root: u32) -> u32 {
-    match fault {
-        Fault::ContextInsteadOfId if id <= 62 => root.min(62),
-        Fault::IdCutTo6Bits | Fault::IdCutTo8Bits | Fault::IdCutTo16Bits => root,
-        _ => id,
-    }
-}
-
 /// What a refused pass leaves and answers.
 fn refused(
     fault: Fault,
@@ -101,7 +84,8 @@ fn refused(
     };
     let mut pool = pool;
     let is_of_tree = refusal == Refusal::Tree;
-    let is_early = !is_of_tree && buffer.len() == SLOTS && check_tables(words.len()).is_ok();
+    let can_sweep = buffer.len() == SLOTS && check_tables(words.len()).is_ok();
+    let is_early = !is_of_tree && can_sweep && (root as usize) < words.len();
     match fault {
         Fault::RefusedSweeps if is_of_tree => drop(sweep(&mut *buffer, &words[..])),
         Fault::RefusedEarlySweeps if is_early => drop(sweep(&mut *buffer, &words[..])),
