@@ -8,8 +8,8 @@ use crate::protocol::{Answer, Request};
 use crate::put::{Put, PutJudged};
 use std::rc::Rc;
 
-/// So many random cases suffice.
-const CASES: usize = 6000;
+/// Random cases beside the edges, which show every fault.
+const CASES: usize = 2000;
 
 struct Trial {
     tables: Rc<Vec<u32>>,
