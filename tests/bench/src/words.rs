@@ -10,19 +10,22 @@ use crate::table;
 use std::path::Path;
 use std::time::Duration;
 
-const SCENARIOS: [&str; 7] = [
-    "raw access, hit",
-    "served access, hit",
-    "served access, miss with a load",
-    "store into a full buffer, empties nothing",
-    "look: SELECT set, TLB_HI and TLB_LO read",
-    "give and take of a frame",
-    "map of a frame, and its give",
+/// Each with the number of calls that is tried first.
+const SCENARIOS: [(&str, u32); 9] = [
+    ("raw access, hit", MANY),
+    ("served access, hit", MANY),
+    ("served access, miss with a load", MANY),
+    ("store into a full buffer, empties nothing", MANY),
+    ("look: SELECT set, TLB_HI and TLB_LO read", MANY),
+    ("give and take of a frame", MANY),
+    ("map of a frame, and its give", MANY),
+    ("a pass twice over 80 pages and mapping them again", 16),
+    ("a pass twice over 4,096 pages and mapping them again", 1),
 ];
 
-const ROUNDS: usize = 11;
+const MANY: u32 = 1 << 12;
 
-const FIRST_COUNT: u32 = 1 << 12;
+const ROUNDS: usize = 11;
 
 /// The slower side's process runs about this long.
 const LONG_ENOUGH: Duration = Duration::from_millis(150);
@@ -40,14 +43,19 @@ pub fn measure() -> Result<(), String> {
         &title,
         &["call", "calls", "Rattle", "second program", "ratio"],
     );
-    for (scenario, name) in SCENARIOS.into_iter().enumerate() {
-        measure_scenario(programs, scenario as u32, name)?;
+    for (scenario, (name, first_count)) in (0..).zip(SCENARIOS) {
+        let count = count_for(programs, scenario, first_count)?;
+        measure_scenario(programs, scenario, name, count)?;
     }
     Ok(())
 }
 
-fn measure_scenario(programs: Both<&Path>, scenario: u32, name: &str) -> Result<(), String> {
-    let count = count_for(programs, scenario)?;
+fn measure_scenario(
+    programs: Both<&Path>,
+    scenario: u32,
+    name: &str,
+    count: u32,
+) -> Result<(), String> {
     let (sum, _) = pace(programs.second, scenario, count)?;
     let medians = medians(ROUNDS, programs, |program| {
         let (got, with) = pace(program, scenario, count)?;
@@ -67,8 +75,8 @@ fn measure_scenario(programs: Both<&Path>, scenario: u32, name: &str) -> Result<
 }
 
 /// Doubles the number of calls until the slower side runs long enough.
-fn count_for(programs: Both<&Path>, scenario: u32) -> Result<u32, String> {
-    let mut count = FIRST_COUNT;
+fn count_for(programs: Both<&Path>, scenario: u32, first: u32) -> Result<u32, String> {
+    let mut count = first;
     loop {
         let slower = pace(programs.rattle, scenario, count)?
             .1

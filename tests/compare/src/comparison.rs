@@ -6,7 +6,7 @@ use crate::expected::{self, FAULT};
 use crate::fault;
 use crate::outcome::{self, Runs};
 use crate::protocol::{Answer, Call, Request};
-use crate::put::{Put, PutInSequence};
+use crate::put::{Put, PutInSequence, PutJudged};
 use crate::witness::Witness;
 use std::cell::RefCell;
 use std::marker::PhantomData;
@@ -207,5 +207,23 @@ impl<O: Outcomes> Put for Comparison<O> {
 impl<O: Outcomes> PutInSequence for Comparison<O> {
     fn put_in_sequence(&mut self, witness: Option<Witness>, request: Request) -> Answer {
         self.put_before(witness, request)
+    }
+}
+
+impl<O: Outcomes> PutJudged for Comparison<O> {
+    fn put_judged(&mut self, judges: Judges, request: Request) -> Answer {
+        self.put_before(judges, request)
+    }
+
+    fn wants_more(&self, total: usize) -> bool {
+        self.exchange.wants_more(total)
+    }
+
+    fn count(&self) -> usize {
+        self.exchange.count()
+    }
+
+    fn may_restart(&mut self) {
+        Comparison::may_restart(self);
     }
 }

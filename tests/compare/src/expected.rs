@@ -1,6 +1,7 @@
 //! The answer that the reference gives to a request.
 
 use crate::protocol::{Answer, Call, PoolCall, Request};
+use reference::collector::by_tables;
 use reference::heap::{self, Mapping};
 use reference::*;
 use std::rc::Rc;
@@ -77,8 +78,14 @@ pub fn answer(request: &Request, tables: &mut Rc<Vec<u32>>) -> Answer {
             let (Mapping { reply, pfn }, after) =
                 heap::map(registers, &mut buffer, tables, *request.pool(), index, leaf);
             pool = Some(Box::new(after));
-            let ([word, value, loads, _], registers) = words_of_reply(reply);
-            ([word, value, loads, pfn], registers)
+            words_of_reply_with(reply, pfn)
+        }
+        Call::OnPool(PoolCall::Collect { id }) => {
+            let tables = Rc::make_mut(tables);
+            let mut after = *request.pool();
+            let pass = by_tables::collect(registers, &mut buffer, tables, &mut after, id);
+            pool = Some(Box::new(after));
+            words_of_reply_with(pass.reply, pass.given)
         }
     };
     Answer {
@@ -88,6 +95,12 @@ pub fn answer(request: &Request, tables: &mut Rc<Vec<u32>>) -> Answer {
         buffer,
         tables: kept,
     }
+}
+
+/// A reply with a number behind it.
+pub fn words_of_reply_with(reply: Reply, number: u32) -> ([u32; 4], Registers) {
+    let ([word, value, loads, _], registers) = words_of_reply(reply);
+    ([word, value, loads, number], registers)
 }
 
 fn words_of_reply(reply: Reply) -> ([u32; 4], Registers) {

@@ -3,11 +3,14 @@
 //! Use:
 //!   compare calls PROBE [SEED] [CASES]        the single calls, by the program `probe`
 //!   compare pools PROBE [SEED] [CASES]        calls on pools of frames, by the program `probe`
+//!   compare passes PROBE [SEED] [CASES]       passes of the collector, by the program `probe`
 //!   compare traces MMUTRACE [SEED] [TRACES]   whole traces, by the trace program
 //!   compare reports MMUREPORT [SEED] [FILES]  reports over trace files, by the report program
 //!   compare host HOST [SEED] [CASES]          the C calls, by tests/host
 //!   compare words PROBE HOST [SEED] [CASES]   the C calls that start and set, by tests/host, with
 //!                                             the calls over words, by the program `probe`
+//!   compare stand-in [FAULT]                  speaks as `probe`, with a fault in its passes or, by
+//!                                             the name None, without; lists them if none is named
 //!
 //! Prints how often each outcome happened. An outcome fails that never happened or in which the
 //! programs differed. The last line is 'N passed, M failed'; the status is 0 where M is 0.
@@ -23,6 +26,7 @@ mod expected;
 mod fault;
 mod host;
 mod outcome;
+mod passes;
 mod pools;
 mod program;
 mod protocol;
@@ -31,6 +35,7 @@ mod random;
 mod read_back;
 mod reports;
 mod request;
+mod stand_in;
 mod tally;
 mod traces;
 mod witness;
@@ -38,11 +43,15 @@ mod witness;
 use std::process::ExitCode;
 
 const SEED: u64 = 100;
-const USE: &str = "use: compare calls|pools|traces|reports|host PROGRAM [SEED] [NUMBER]
-     compare words PROBE HOST [SEED] [NUMBER]";
+const USE: &str = "use: compare calls|pools|passes|traces|reports|host PROGRAM [SEED] [NUMBER]
+     compare words PROBE HOST [SEED] [NUMBER]
+     compare stand-in [FAULT]";
 
 fn compare() -> Result<bool, String> {
     let words: Vec<String> = std::env::args().skip(1).collect();
+    if words.first().is_some_and(|word| word == "stand-in") {
+        return stand_in::speak(words.get(1).map(String::as_str));
+    }
     let programs = match words.first().map(String::as_str) {
         Some("words") => 2,
         _ => 1,
@@ -64,6 +73,7 @@ fn compare() -> Result<bool, String> {
     match &words[0][..] {
         "calls" => calls::compare(program, seed, many(calls::CASES)?),
         "host" => host::compare(program, seed, many(host::CASES)?),
+        "passes" => passes::compare(program, seed, many(passes::CASES)?),
         "pools" => pools::compare(program, seed, many(pools::CASES)?),
         "reports" => reports::compare(program, seed, many(reports::FILES)?),
         "traces" => traces::compare(program, seed, many(traces::TRACES)?),

@@ -40,6 +40,7 @@ pub enum PoolCall {
     Give { pfn: u32 },
     Held,
     Map { index: u32, leaf: u32 },
+    Collect { id: u32 },
 }
 
 impl Call {
@@ -58,6 +59,34 @@ impl Call {
             Call::OnPool(call) => call.words(),
         }
     }
+
+    fn from_words(words: [u32; 5]) -> Option<Call> {
+        let [kind, first, second, _, _] = words;
+        Some(match kind {
+            0 => Call::Start,
+            1 => Call::Raw(access_of(words)),
+            2 => Call::Write {
+                number: first,
+                value: second,
+            },
+            3 => Call::Read { number: first },
+            4 => Call::Walk {
+                page_id: first,
+                vpn: second,
+            },
+            5 => Call::Served(access_of(words)),
+            6 => Call::Store {
+                index: first,
+                value: second,
+            },
+            7 => Call::Setting {
+                number: first,
+                value: second,
+            },
+            8 => Call::Tables,
+            _ => Call::OnPool(PoolCall::from_words(words)?),
+        })
+    }
 }
 
 impl PoolCall {
@@ -68,7 +97,35 @@ impl PoolCall {
             PoolCall::Give { pfn } => [11, pfn, 0, 0, 0],
             PoolCall::Held => [12, 0, 0, 0, 0],
             PoolCall::Map { index, leaf } => [13, index, leaf, 0, 0],
+            PoolCall::Collect { id } => [14, id, 0, 0, 0],
         }
+    }
+
+    fn from_words([kind, first, second, _, _]: [u32; 5]) -> Option<PoolCall> {
+        Some(match kind {
+            9 => PoolCall::New {
+                first,
+                size: second,
+            },
+            10 => PoolCall::Take,
+            11 => PoolCall::Give { pfn: first },
+            12 => PoolCall::Held,
+            13 => PoolCall::Map {
+                index: first,
+                leaf: second,
+            },
+            14 => PoolCall::Collect { id: first },
+            _ => return None,
+        })
+    }
+}
+
+fn access_of([_, address, user, write, draw]: [u32; 5]) -> Access {
+    Access {
+        address,
+        user: user == 1,
+        write: write == 1,
+        draw,
     }
 }
 
@@ -119,15 +176,47 @@ impl Request {
         put_words(&mut bytes, &self.call.words());
         put_words(&mut bytes, &lengths);
         put_words(&mut bytes, &self.registers);
-        if let Some(pool) = &self.pool {
-            put_words(&mut bytes, &[pool.first, pool.size]);
-            put_numbers(&mut bytes, &pool.bits);
-        }
+        put_pool(&mut bytes, self.pool.as_deref());
         put_numbers(&mut bytes, &self.buffer);
         put_words(&mut bytes, &self.tables);
         bytes
     }
+
+    /// How many bytes follow the head of a request.
+    pub fn rest_length(head: &[u8]) -> usize {
+        let [kind, buffer, tables] = [0, 5, 6].map(|n| word_of(&head[4 * n..4 * n + 4]));
+        let pool = match kind {
+            9.. => POOL_BYTES,
+            _ => 0,
+        };
+        4 * FIELDS + pool + 8 * buffer as usize + 4 * tables as usize
+    }
+
+    /// A request from its head and what follows; none where there is no such call.
+    pub fn from_bytes(head: &[u8], rest: &[u8]) -> Option<Request> {
+        let head: Vec<u32> = head.chunks_exact(4).map(word_of).collect();
+        let call = Call::from_words(std::array::from_fn(|n| head[n]))?;
+        let (registers, mut rest) = rest.split_at(4 * FIELDS);
+        let registers: Vec<u32> = registers.chunks_exact(4).map(word_of).collect();
+        let mut pool = None;
+        if let Call::OnPool(_) = call {
+            let (bytes, behind) = rest.split_at(POOL_BYTES);
+            pool = Some(Box::new(pool_of(bytes)));
+            rest = behind;
+        }
+        let (buffer, tables) = rest.split_at(8 * head[5] as usize);
+        Some(Request {
+            call,
+            registers: std::array::from_fn(|n| registers[n]),
+            pool,
+            buffer: buffer.chunks_exact(8).map(number_of).collect(),
+            tables: tables.chunks_exact(4).map(word_of).collect(),
+        })
+    }
 }
+
+/// The kind, its four arguments, the lengths of the runs, and 0.
+pub const HEAD_WORDS: usize = 8;
 
 #[derive(Clone, Debug, PartialEq, Eq)]
 pub struct Answer {
@@ -148,6 +237,16 @@ impl Answer {
             None => 0,
         };
         4 * (4 + FIELDS) + pool + 8 * request.buffer.len() + 4 * words
+    }
+
+    pub fn to_bytes(&self) -> Vec<u8> {
+        let mut bytes = Vec::new();
+        put_words(&mut bytes, &self.words);
+        put_words(&mut bytes, &self.registers);
+        put_pool(&mut bytes, self.pool.as_deref());
+        put_numbers(&mut bytes, &self.buffer);
+        put_words(&mut bytes, &self.tables);
+        bytes
     }
 
     /// Takes exactly `byte_length` bytes apart.
@@ -178,6 +277,13 @@ fn pool_of(bytes: &[u8]) -> Pool {
         first: word_of(&bytes[..4]),
         size: word_of(&bytes[4..8]),
         bits: std::array::from_fn(|n| number_of(&bytes[8 + 8 * n..16 + 8 * n])),
+    }
+}
+
+fn put_pool(bytes: &mut Vec<u8>, pool: Option<&Pool>) {
+    if let Some(pool) = pool {
+        put_words(bytes, &[pool.first, pool.size]);
+        put_numbers(bytes, &pool.bits);
     }
 }
 
@@ -261,5 +367,35 @@ mod tests {
         assert_eq!(bytes.len() - 16, Answer::byte_length(&request, 0));
         assert_eq!(answer.pool, request.pool);
         assert_eq!(answer.buffer, request.buffer);
+    }
+
+    #[test]
+    fn a_pass_and_its_answer_are_read_as_they_were_written() {
+        let pool = Pool {
+            first: 7,
+            size: 9,
+            bits: std::array::from_fn(|n| 1 << n),
+        };
+        let call = PoolCall::Collect { id: 62 };
+        let request = Request {
+            tables: vec![5, 6],
+            ..Request::on_pool(call, Registers::default(), pool, vec![3, 4])
+        };
+        let bytes = request.to_bytes();
+        assert_eq!(bytes[..8], [0, 0, 0, 14, 0, 0, 0, 62]);
+        let (head, rest) = bytes.split_at(4 * HEAD_WORDS);
+        assert_eq!(Request::rest_length(head), rest.len());
+        let read = Request::from_bytes(head, rest).expect("there is such a call");
+        assert_eq!(read.to_bytes(), bytes);
+        let answer = Answer {
+            words: [2, 1, 0, 3],
+            registers: request.registers,
+            pool: request.pool.clone(),
+            buffer: request.buffer.clone(),
+            tables: Vec::new(),
+        };
+        let bytes = answer.to_bytes();
+        assert_eq!(bytes.len(), Answer::byte_length(&request, 0));
+        assert_eq!(Answer::from_bytes(&bytes, &request), answer);
     }
 }

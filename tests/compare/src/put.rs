@@ -1,5 +1,6 @@
 //! What the cases of the calls are put to.
 
+use crate::comparison::Judges;
 use crate::protocol::{Answer, Request};
 use crate::witness::Witness;
 
@@ -15,4 +16,18 @@ pub trait PutInSequence: Put {
     /// One request more of a sequence, before its witness where there is one. The second program's
     /// answer comes back.
     fn put_in_sequence(&mut self, witness: Option<Witness>, request: Request) -> Answer;
+}
+
+pub trait PutJudged: Put {
+    /// One request more, before judges. The second program's answer comes back.
+    fn put_judged(&mut self, judges: Judges, request: Request) -> Answer;
+
+    /// Whether fewer than the given number have been put to a program that still answers.
+    fn wants_more(&self, total: usize) -> bool;
+
+    /// How many have been put so far.
+    fn count(&self) -> usize;
+
+    /// Between cases that need no earlier table run: the program may be started afresh.
+    fn may_restart(&mut self);
 }

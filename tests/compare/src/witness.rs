@@ -22,6 +22,7 @@ const ONE_HIT_ALL: &str =
     "sequence: at most one hit on every touched page, ids 0 to 62, CTRL 0 to 7";
 
 pub const MAP_EMPTIED: &str = "sequence: the map's count is the account's";
+pub const PASS_EMPTIED: &str = "sequence: the pass's count is the account's";
 
 pub fn all() -> Vec<String> {
     let mut all = of_calls();
@@ -58,6 +59,10 @@ pub enum Told {
     },
     /// The frame is judged elsewhere.
     Map {
+        emptied: u32,
+    },
+    /// The frames are judged elsewhere.
+    Pass {
         emptied: u32,
     },
     Setting,
@@ -130,6 +135,9 @@ impl Told {
             Told::Store { emptied } => vec![(EMPTIED, got.words == [DONE, *emptied, 0, 0])],
             Told::Map { emptied } => {
                 vec![(MAP_EMPTIED, [word, value, loads] == [DONE, *emptied, 0])]
+            }
+            Told::Pass { emptied } => {
+                vec![(PASS_EMPTIED, [word, value, loads] == [DONE, *emptied, 0])]
             }
             Told::Setting => vec![(SET, got.words == [DONE, 0, 0, 0])],
             Told::Words(words) => vec![(WORDS_AGREE, got.tables == *words)],

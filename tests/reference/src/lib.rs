@@ -1,12 +1,13 @@
 //! The memory unit of the ETRAX 100LX as document 01 tells it, with what requests of document 02
 //! ask for: the register read that gives the entry at SELECT, the report over traces, the heap of
-//! frames above the unit, and the fault that says where the walk stopped.
+//! frames above the unit, the fault that says where the walk stopped, and the collector.
 //!
 //! Each module is one heading of the paper, and quotes its words where a
 //! sentence decides.
 
 mod account;
 mod address;
+pub mod collector;
 mod entry;
 mod fault;
 mod guarded;
@@ -40,8 +41,8 @@ pub use load::{is_of_page, load, slot_to_load};
 pub use raw::{raw_access, translate, Access, RawAnswer, Translation, EXCEPTION_MISS};
 pub use reader::{GuardedCall, Handed, Reader, Said, SETTINGS};
 pub use refusal::{
-    check_buffer, check_draw, check_index, check_number, check_pool, check_registers, check_served,
-    check_setting, check_switch, check_tables, Refusal,
+    check_buffer, check_draw, check_identification, check_index, check_number, check_pool,
+    check_registers, check_served, check_setting, check_switch, check_tables, Refusal,
 };
 pub use register_read::read_register;
 pub use register_write::write_register;

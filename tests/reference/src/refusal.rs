@@ -22,6 +22,10 @@ pub enum Refusal {
     Pool,
     PoolFull,
     NotHeld,
+    /// Number 5 of a pass.
+    Identification,
+    /// A tree that a pass can't be made over.
+    Tree,
 }
 
 impl Refusal {
@@ -31,13 +35,14 @@ impl Refusal {
             Refusal::BufferLength => 2,
             Refusal::TableLength => 3,
             Refusal::Draw => 4,
-            Refusal::TestModeOrContext => 5,
+            Refusal::TestModeOrContext | Refusal::Identification => 5,
             Refusal::WordIndex => 6,
             Refusal::RegisterNumber => 7,
             Refusal::Record => 8,
             Refusal::Total => 9,
             Refusal::PoolFull => 10,
             Refusal::NotHeld => 11,
+            Refusal::Tree => 12,
         }
     }
 }
@@ -88,6 +93,14 @@ pub fn check_served(registers: Registers) -> Result<(), Refusal> {
 pub fn check_switch(number: u32, value: u32) -> Result<(), Refusal> {
     if number == CONTEXT && value > 62 {
         return Err(Refusal::TestModeOrContext);
+    }
+    Ok(())
+}
+
+/// Number 5 of a pass: "an identification above 62".
+pub fn check_identification(id: u32) -> Result<(), Refusal> {
+    if id > 62 {
+        return Err(Refusal::Identification);
     }
     Ok(())
 }

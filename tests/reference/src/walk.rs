@@ -5,8 +5,8 @@ use crate::run::Run;
 /// "Word 63 is the global root."
 pub const GLOBAL_ROOT: usize = 63;
 
-const DIRECTORY_WORDS: usize = 512;
-const TABLE_WORDS: usize = 1024;
+pub const DIRECTORY_WORDS: usize = 512;
+pub const TABLE_WORDS: usize = 1024;
 
 #[derive(Clone, Copy, Debug, PartialEq, Eq)]
 pub enum Tree {
@@ -102,13 +102,13 @@ pub fn walk_tree(words: &(impl Run<u32> + ?Sized), tree: Tree, page_id: u32, vpn
 }
 
 /// Bit 31.
-fn present(word: u32) -> bool {
+pub fn present(word: u32) -> bool {
     word >> 31 == 1
 }
 
 /// Where the stretch that a present root or directory word names begins, or why the word is
 /// broken: reserved bits 30 to 16 set, number 0, or the stretch not wholly inside the run.
-fn stretch_begin(run: usize, word: u32, length: usize) -> Result<usize, WhyBroken> {
+pub fn stretch_begin(run: usize, word: u32, length: usize) -> Result<usize, WhyBroken> {
     let reserved = (word >> 16) % (1 << 15);
     let number = (word % (1 << 16)) as usize;
     if reserved != 0 {

@@ -34,10 +34,10 @@ fn frames(pages: u64) -> u64 {
 
 #[test]
 fn nothing_is_added_for_no_calls() {
-    for scenario in 0..7 {
+    for scenario in 0..9 {
         assert_eq!(sum(scenario, 0), Some(0), "{scenario}");
     }
-    assert_eq!(sum(7, 0), None);
+    assert_eq!(sum(9, 0), None);
 }
 
 #[test]
@@ -90,4 +90,24 @@ fn the_first_maps_empty_a_slot_each_and_all_map_the_lowest_free_frame() {
     assert_eq!(sum(6, 1), Some(103_000 + 2 + 1));
     assert_eq!(sum(6, 64), Some(once + 64));
     assert_eq!(sum(6, 6400), Some(100 * once + 64));
+}
+
+/// What two passes and the maps of these pages add: the pages are aged, and nothing is emptied;
+/// they are given back; each is mapped to its frame again.
+fn round(pages: u64) -> u64 {
+    let maps: u64 = (256..256 + pages).map(|pfn| pfn + 1).sum();
+    1 + (1 + pages) + maps
+}
+
+#[test]
+fn the_first_pass_alone_empties_the_64_slots() {
+    assert_eq!(sum(7, 1), Some(round(80) + 64));
+    assert_eq!(sum(7, 100), Some(100 * round(80) + 64));
+}
+
+/// The first map of each page that has a slot keeps its slot: the leaf is the same.
+#[test]
+fn so_it_is_with_as_many_pages_as_a_pool_has_frames() {
+    assert_eq!(sum(8, 1), Some(round(4096) + 64));
+    assert_eq!(sum(8, 3), Some(3 * round(4096) + 64));
 }

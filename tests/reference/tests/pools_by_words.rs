@@ -2,26 +2,10 @@
 
 mod common;
 
+use common::numbers::Numbers;
 use common::Unit;
 use reference::heap::*;
 use reference::*;
-
-/// A small deterministic generator (splitmix64).
-struct Numbers(u64);
-
-impl Numbers {
-    fn next(&mut self) -> u64 {
-        self.0 = self.0.wrapping_add(0x9E37_79B9_7F4A_7C15);
-        let mut mixed = self.0;
-        mixed = (mixed ^ (mixed >> 30)).wrapping_mul(0xBF58_476D_1CE4_E5B9);
-        mixed = (mixed ^ (mixed >> 27)).wrapping_mul(0x94D0_49BB_1331_11EB);
-        mixed ^ (mixed >> 31)
-    }
-
-    fn below(&mut self, bound: u32) -> u32 {
-        (self.next() % u64::from(bound)) as u32
-    }
-}
 
 /// Sizes and firsts around every edge, some of which do not fit.
 fn pool(numbers: &mut Numbers) -> Pool {

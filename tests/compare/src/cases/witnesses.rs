@@ -68,6 +68,26 @@ impl Witnesses {
         }
     }
 
+    /// What they say of the stores that an accepted pass makes, one after another.
+    pub fn hear_stores_of_pass(
+        &mut self,
+        request: &Request,
+        stores: &[(u32, u32)],
+        look_at: LookAt,
+    ) -> Witness {
+        let mut emptied = 0;
+        for &(index, value) in stores {
+            let store = GuardedCall::Store { index, value };
+            let said = self.reader.hear(self.handed(request), store);
+            assert_eq!(said, Said::Written, "{:?}", request.call);
+            emptied += self.emptied();
+        }
+        Witness {
+            told: Told::Pass { emptied },
+            left: Some(self.left(Some(Rc::clone(&self.account)), look_at)),
+        }
+    }
+
     /// What they say of the whole table run.
     pub fn hear_of_words(&self, look_at: LookAt) -> Witness {
         Witness {

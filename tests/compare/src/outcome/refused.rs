@@ -31,6 +31,31 @@ pub fn set_of_grounds(call: &str, grounds: &[u32], refused: u32) -> String {
     format!("{call} refused {refused}, grounds {}", grounds.join(" "))
 }
 
+/// The same where two grounds have one number: a ground's name begins with it.
+pub fn all_sets_of_named(call: &str, possible: &[&str]) -> Vec<String> {
+    (1..1usize << possible.len())
+        .map(|set| {
+            let chosen = (0..possible.len()).filter(|n| set >> n & 1 == 1);
+            refused_on(call, &chosen.map(|n| possible[n]).collect::<Vec<&str>>())
+        })
+        .collect()
+}
+
+/// The names of those checks that fail.
+pub fn named_grounds<'a>(names: &[&'a str], checks: &[Result<(), Refusal>]) -> Vec<&'a str> {
+    names
+        .iter()
+        .zip(checks)
+        .filter(|(_, check)| check.is_err())
+        .map(|(name, _)| *name)
+        .collect()
+}
+
+pub fn refused_on(call: &str, grounds: &[&str]) -> String {
+    let number = grounds[0].split(' ').next().unwrap_or_default();
+    format!("{call} refused {number}, grounds {}", grounds.join(", "))
+}
+
 /// Outcomes of the register fields of a call that takes registers.
 pub fn all_fields(call: &str) -> Vec<String> {
     let mut all = vec![several_fields(call)];

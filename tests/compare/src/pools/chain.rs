@@ -1,10 +1,10 @@
 //! Calls from a new pool on, each handed the last one's pool, and the pool's history.
 
-use super::comparison::Comparison;
 use super::history::History;
 use super::shapes;
 use crate::comparison::{Hears, Judges};
 use crate::protocol::{Answer, PoolCall, Request};
+use crate::put::PutJudged;
 use crate::random::Random;
 use reference::heap::{Pool, BIT_NUMBERS};
 use reference::Registers;
@@ -22,7 +22,7 @@ pub struct Chain {
 
 impl Chain {
     /// A new pool of this size. In some, other bits are put past its size before it is handed on.
-    pub fn begin(comparison: &mut Comparison, random: &mut Random, size: u32) -> Chain {
+    pub fn begin(to: &mut dyn PutJudged, random: &mut Random, size: u32) -> Chain {
         let first = shapes::first(random, size);
         let beside = shapes::any(random);
         let past = match random.below(3) {
@@ -36,7 +36,7 @@ impl Chain {
             ours: history.clone(),
             theirs: Rc::new(RefCell::new(history)),
         };
-        chain.call(comparison, PoolCall::New { first, size }, Vec::new());
+        chain.call(to, PoolCall::New { first, size }, Vec::new());
         for place in size..64 * BIT_NUMBERS as u32 {
             let is_set = past[place as usize / 64] >> (place % 64) & 1 == 1;
             shapes::set(&mut chain.pool, place, is_set);
@@ -47,7 +47,7 @@ impl Chain {
     /// The next call, which has nothing to do with the unit.
     pub fn call(
         &mut self,
-        comparison: &mut Comparison,
+        to: &mut dyn PutJudged,
         call: PoolCall,
         outcomes: Vec<String>,
     ) -> Answer {
@@ -56,16 +56,22 @@ impl Chain {
             outcomes,
             ..Judges::default()
         };
-        self.put(comparison, judges, request)
+        self.put(to, judges, request)
+    }
+
+    /// The next pass gives these frames back where it is accepted.
+    pub fn expect_back(&mut self, frames: Vec<u32>) {
+        self.theirs.borrow_mut().expect_back(frames.clone());
+        self.ours.expect_back(frames);
     }
 
     /// A request that is handed the last one's pool.
-    pub fn put(&mut self, comparison: &mut Comparison, judges: Judges, request: Request) -> Answer {
+    pub fn put(&mut self, to: &mut dyn PutJudged, judges: Judges, request: Request) -> Answer {
         let judges = Judges {
             history: Some(self.theirs.clone()),
             ..judges
         };
-        let answer = comparison.put_before(judges, request.clone());
+        let answer = to.put_judged(judges, request.clone());
         for (point, holds) in self.ours.hear(&request, &answer) {
             assert!(holds, "{point}: {:?}", request.call);
         }

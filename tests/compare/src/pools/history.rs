@@ -8,6 +8,7 @@ use crate::comparison::{Hears, Points};
 use crate::expected::{DONE, REFUSED};
 use crate::protocol::{Answer, Call, PoolCall, Request};
 use reference::heap::{Pool, BIT_NUMBERS, MOST_FRAMES};
+use std::collections::VecDeque;
 
 const NEW: &str = "history: a new pool has its first pfn and size, and all bits 0";
 const FULL: &str = "history: a take is refused with 10 exactly when every frame is live";
@@ -21,7 +22,13 @@ const BALANCE: &str = "history: frames free and frames held make the size";
 const BITS: &str = "history: the bits within the size are set for the live frames alone";
 const PAST: &str = "history: the bits past the size stay";
 const SHAPE: &str = "history: the first pfn and the size stay";
+const BACK: &str = "history: a pass answers the number of frames that it has to give back";
 const UNCHANGED: &str = "history: a refused call hands the pool back unchanged";
+
+/// The point that passes alone are judged by.
+pub fn of_passes() -> String {
+    BACK.to_string()
+}
 
 pub fn all() -> Vec<String> {
     [
@@ -42,6 +49,8 @@ pub struct History {
     taken: usize,
     mapped: usize,
     given: usize,
+    /// For each pass under way, the frames that it gives back where it is accepted.
+    due: VecDeque<Vec<u32>>,
 }
 
 impl History {
@@ -54,7 +63,13 @@ impl History {
             taken: 0,
             mapped: 0,
             given: 0,
+            due: VecDeque::new(),
         }
+    }
+
+    /// A pass that is put next gives these frames back where it is accepted.
+    pub fn expect_back(&mut self, frames: Vec<u32>) {
+        self.due.push_back(frames);
     }
 
     pub fn is_full(&self) -> bool {
@@ -138,6 +153,23 @@ impl History {
         vec![(GIVEN, holds)]
     }
 
+    /// A pass is "covered by the balance": each frame that it gives back is one given.
+    fn hear_pass(&mut self, got: &Answer) -> Points {
+        let frames = self.due.pop_front().unwrap_or_default();
+        let [word, _, _, given] = got.words;
+        if word != DONE {
+            return vec![(BACK, given == 0)];
+        }
+        self.given += given as usize;
+        for pfn in &frames {
+            let place = pfn.wrapping_sub(self.first) as usize;
+            if let Some(live) = self.live.get_mut(place) {
+                *live = false;
+            }
+        }
+        vec![(BACK, given as usize == frames.len())]
+    }
+
     fn hear_held(&self, got: &Answer) -> Points {
         let [word, value, rest @ ..] = got.words;
         let answered = (word == DONE && rest == [0, 0]).then_some(value as usize);
@@ -186,6 +218,7 @@ impl Hears for History {
             PoolCall::Give { pfn } => self.hear_give(pfn, got),
             PoolCall::Held => self.hear_held(got),
             PoolCall::Map { .. } => self.hear_map(got),
+            PoolCall::Collect { .. } => self.hear_pass(got),
         };
         points.extend(self.left(pool));
         if got.words[0] == REFUSED {
@@ -317,5 +350,31 @@ mod tests {
         );
         assert_eq!(against(PoolCall::Held, DONE, 2, pool), [HELD, COUNTED]);
         assert_eq!(against(PoolCall::Held, REFUSED, 1, pool), [HELD, COUNTED]);
+    }
+
+    #[test]
+    fn a_pass_gives_back_what_it_has_to() {
+        let mut told = Told::begin();
+        for _ in 0..2 {
+            told.go(PoolCall::Take);
+        }
+        let against = |word, given, pool| {
+            let mut history = told.history.clone();
+            history.expect_back(vec![8]);
+            let (request, mut got) = told.asked(PoolCall::Collect { id: 5 }, [word, 0], pool);
+            got.words[3] = given;
+            let points = history.hear(&request, &got).into_iter();
+            points
+                .filter_map(|(point, holds)| (!holds).then_some(point))
+                .collect::<Vec<&str>>()
+        };
+        let back = told.pool.with_other_bit(1);
+        assert_eq!(against(DONE, 1, back), [""; 0]);
+        assert_eq!(against(DONE, 0, back), [BACK, BALANCE]);
+        assert_eq!(against(DONE, 1, told.pool), [BITS, BALANCE]);
+        let another = told.pool.with_other_bit(0);
+        assert_eq!(against(DONE, 1, another), [BITS]);
+        assert_eq!(against(REFUSED, 0, told.pool), [""; 0]);
+        assert_eq!(against(REFUSED, 1, told.pool), [BACK]);
     }
 }

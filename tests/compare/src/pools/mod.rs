@@ -5,14 +5,15 @@
 //! states, and of calls in sequences of a unit and a pool.
 
 mod alone;
-mod chain;
+pub mod chain;
 mod comparison;
 mod fill;
-mod history;
+pub mod history;
 mod maps;
-mod outcome;
+pub mod outcome;
+pub mod pooled;
 mod sequence;
-mod shapes;
+pub mod shapes;
 
 use crate::random::Random;
 use comparison::Comparison;

@@ -3,14 +3,12 @@
 
 use super::chain::Chain;
 use super::comparison::Comparison;
+use super::pooled::Pooled;
 use super::shapes;
 use crate::cases::forest::PRESENT;
+use crate::cases::spoil;
 use crate::cases::steps::Steps;
-use crate::cases::witnesses::Witnesses;
 use crate::cases::world::World;
-use crate::cases::{spoil, state};
-use crate::comparison::Judges;
-use crate::expected::DONE;
 use crate::protocol::{Call, PoolCall, Request};
 use crate::random::Random;
 use crate::witness::{LookAt, Told, Witness};
@@ -44,17 +42,12 @@ pub fn all() -> Vec<String> {
 }
 
 struct Sequence {
-    chain: Chain,
-    registers: Registers,
-    buffer: Vec<u64>,
-    witnesses: Witnesses,
+    pooled: Pooled,
     steps: Steps,
     /// The frames that maps put into table words, by the word's index.
     mapped: BTreeMap<u32, u32>,
     /// Frames that were mapped and given since.
     given: Vec<u32>,
-    /// Whether the program keeps the sequence's table run.
-    run_is_kept: bool,
 }
 
 /// One sequence of so many calls, from a start and a new pool.
@@ -62,35 +55,26 @@ pub fn put(comparison: &mut Comparison, random: &mut Random, steps: usize) {
     let mut sequence = Sequence::begin(comparison, random);
     for step in 1..=steps {
         if step.is_multiple_of(STEPS_TO_ALL_WORDS) {
-            sequence.ask_for_words(comparison);
+            sequence.pooled.ask_for_words(comparison);
         }
         sequence.step(comparison, random);
     }
-    sequence.ask_for_words(comparison);
+    sequence.pooled.ask_for_words(comparison);
 }
 
 impl Sequence {
     fn begin(comparison: &mut Comparison, random: &mut Random) -> Sequence {
-        let start = Request::without_run(
-            Call::Start,
-            state::registers(random),
-            state::buffer(random, SLOTS),
-        );
-        let started = comparison.put_before(Judges::default(), start);
         let size = match random.one_in(2) {
             true => 1 + random.bits(3),
             false => shapes::size(random),
         };
         let (world, words) = World::new(random);
+        let chain = Chain::begin(comparison, random, size);
         Sequence {
-            chain: Chain::begin(comparison, random, size),
-            registers: Registers::from_words(started.registers),
-            buffer: started.buffer,
-            witnesses: Witnesses::begin(words),
+            pooled: Pooled::begin(comparison, random, chain, words),
             steps: Steps::new(random, world),
             mapped: BTreeMap::new(),
             given: Vec::new(),
-            run_is_kept: false,
         }
     }
 
@@ -100,7 +84,7 @@ impl Sequence {
             4..=8 => self.give(comparison, random),
             9 | 10 => {
                 let outcomes = vec![format!("{CALL}, held")];
-                self.chain.call(comparison, PoolCall::Held, outcomes);
+                self.pooled.chain.call(comparison, PoolCall::Held, outcomes);
             }
             11..=15 => self.map(comparison, random),
             16 => self.refused_map(comparison, random),
@@ -109,17 +93,19 @@ impl Sequence {
     }
 
     fn take(&mut self, comparison: &mut Comparison) {
-        let outcome = match self.chain.ours.is_full() {
+        let outcome = match self.pooled.chain.ours.is_full() {
             true => format!("{CALL}, take refused 10"),
             false => format!("{CALL}, take accepted"),
         };
-        self.chain.call(comparison, PoolCall::Take, vec![outcome]);
+        self.pooled
+            .chain
+            .call(comparison, PoolCall::Take, vec![outcome]);
     }
 
     /// Mostly of a live frame, where there is one.
     fn give(&mut self, comparison: &mut Comparison, random: &mut Random) {
-        let live = self.chain.ours.live_frames();
-        let pool = &self.chain.pool;
+        let live = self.pooled.chain.ours.live_frames();
+        let pool = &self.pooled.chain.pool;
         let around = pool.first.wrapping_sub(1).wrapping_add(random.bits(3));
         let any = random.bits(19);
         let pfn = match (live.is_empty(), random.below(4)) {
@@ -135,15 +121,15 @@ impl Sequence {
             self.given.push(pfn);
         }
         let call = PoolCall::Give { pfn };
-        self.chain.call(comparison, call, vec![outcome]);
+        self.pooled.chain.call(comparison, call, vec![outcome]);
     }
 
     /// A map where the unit's stores go, which is refused where no frame is free.
     fn map(&mut self, comparison: &mut Comparison, random: &mut Random) {
-        let words = self.witnesses.reader.words();
+        let words = self.pooled.words();
         let (index, leaf) = self.steps.world().store(random, words);
-        let request = self.map_request((index, leaf));
-        let lowest = self.chain.ours.lowest_not_live();
+        let request = self.pooled.request_on_pool(PoolCall::Map { index, leaf });
+        let lowest = self.pooled.chain.ours.lowest_not_live();
         let look_at = LookAt::One(self.steps.page());
         let mut outcomes = Vec::new();
         let witness = match lowest {
@@ -153,7 +139,9 @@ impl Sequence {
                 }
                 self.mapped.insert(index, pfn);
                 let store = (index, word_of(leaf, pfn));
-                self.witnesses.hear_store_of_map(&request, store, look_at)
+                self.pooled
+                    .witnesses
+                    .hear_store_of_map(&request, store, look_at)
             }
             None => {
                 outcomes.push(map_refused(10));
@@ -163,7 +151,8 @@ impl Sequence {
         if let Told::Map { emptied } = witness.told {
             outcomes.push(map_empties(emptied));
         }
-        self.put_map(comparison, witness, outcomes, request);
+        self.pooled
+            .put_on_pool(comparison, witness, outcomes, request);
     }
 
     /// A map that is refused whether or not a frame is free. Where it is handed another run, the
@@ -171,56 +160,31 @@ impl Sequence {
     fn refused_map(&mut self, comparison: &mut Comparison, random: &mut Random) {
         let grounds = spoil::some(random, &[1, 2, 3, 6]);
         if grounds.contains(&3) {
-            self.ask_for_words(comparison);
+            self.pooled.ask_for_words(comparison);
         }
-        let words = self.witnesses.reader.words();
+        let words = self.pooled.words();
         let length = words.len();
         let (index, leaf) = self.steps.world().store(random, words);
         let store = Call::Store { index, value: leaf };
-        let mut request = self.request(store);
+        let mut request = self.pooled.request(store);
         spoil::spoil(random, &mut request, length, &grounds);
         let Call::Store { index, .. } = request.call else {
             panic!("{:?} is no store", request.call);
         };
         let request = Request {
             call: Call::OnPool(PoolCall::Map { index, leaf }),
-            pool: Some(Box::new(self.chain.pool)),
+            pool: Some(Box::new(self.pooled.chain.pool)),
             ..request
         };
-        self.run_is_kept = !grounds.contains(&3);
+        self.pooled.run_is_kept = !grounds.contains(&3);
         let witness = Witness::of_refusal(grounds[0]);
-        self.put_map(comparison, witness, vec![map_refused(grounds[0])], request);
-    }
-
-    fn map_request(&mut self, (index, leaf): (u32, u32)) -> Request {
-        let pool = Some(Box::new(self.chain.pool));
-        Request {
-            pool,
-            ..self.request(Call::OnPool(PoolCall::Map { index, leaf }))
-        }
-    }
-
-    fn put_map(
-        &mut self,
-        comparison: &mut Comparison,
-        witness: Witness,
-        outcomes: Vec<String>,
-        request: Request,
-    ) {
-        let judges = Judges {
-            witness: Some(witness),
-            outcomes,
-            ..Judges::default()
-        };
-        let answer = self.chain.put(comparison, judges, request);
-        if answer.words[0] == DONE {
-            self.buffer = answer.buffer;
-        }
+        self.pooled
+            .put_on_pool(comparison, witness, vec![map_refused(grounds[0])], request);
     }
 
     /// An access, a store or a setting that is accepted.
     fn unit_call(&mut self, comparison: &mut Comparison, random: &mut Random) {
-        let reader = &self.witnesses.reader;
+        let reader = &self.pooled.witnesses.reader;
         let call = self
             .steps
             .next_call(random, reader.settings(), reader.words());
@@ -231,27 +195,21 @@ impl Sequence {
         if let Call::Store { index, .. } = call {
             self.mapped.remove(&index);
         }
-        let request = self.request(call);
+        let request = self.pooled.request(call);
         let look_at = LookAt::One(self.steps.page());
-        let witness = self.witnesses.hear(&request, look_at);
+        let witness = self.pooled.witnesses.hear(&request, look_at);
         let mut outcomes = Vec::new();
         if let (Some(mapped), Some(address)) = (mapped, address_of(&witness)) {
             assert_eq!(address, mapped, "{:?}", request.call);
             outcomes.push(MAPPED_AT.to_string());
         }
-        let judges = Judges {
-            witness: Some(witness),
-            outcomes,
-            ..Judges::default()
-        };
-        let answer = comparison.put_before(judges, request);
-        self.registers = Registers::from_words(answer.registers);
-        self.buffer = answer.buffer;
+        self.pooled
+            .put_unit_call(comparison, witness, outcomes, request);
     }
 
     /// The address in the frame that a map put into the leaf of the access's page.
     fn frame_of(&self, access: Access) -> Option<u32> {
-        let reader = &self.witnesses.reader;
+        let reader = &self.pooled.witnesses.reader;
         if !reader.is_enabled() || reader.linear_base(access).is_some() {
             return None;
         }
@@ -260,30 +218,6 @@ impl Sequence {
         };
         let pfn = self.mapped.get(&(leaf.index as u32))?;
         Some(pfn * 8192 + access.address % 8192)
-    }
-
-    /// A request with the unit as it is; the run goes along where the program has another.
-    fn request(&mut self, call: Call) -> Request {
-        let tables = match self.run_is_kept {
-            true => Vec::new(),
-            false => self.witnesses.reader.words().to_vec(),
-        };
-        self.run_is_kept = true;
-        Request {
-            tables,
-            ..Request::without_run(call, self.registers, self.buffer.clone())
-        }
-    }
-
-    fn ask_for_words(&mut self, comparison: &mut Comparison) {
-        let request = self.request(Call::Tables);
-        let pages = (0..SLOTS).map(|slot| self.witnesses.page_of(slot));
-        let look_at = LookAt::AllTouched(pages.collect());
-        let judges = Judges {
-            witness: Some(self.witnesses.hear_of_words(look_at)),
-            ..Judges::default()
-        };
-        comparison.put_before(judges, request);
     }
 }
 

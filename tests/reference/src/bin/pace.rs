@@ -3,6 +3,7 @@
 //! Standard input is a scenario and a count, two words of 32 bits; standard output the sum of the
 //! answers, modulo 2^64; both most significant byte first.
 
+use reference::collector::by_tables;
 use reference::heap::{by_words, new_pool, Pool};
 use reference::*;
 use std::io::{self, Error, Read, Write};
@@ -24,6 +25,16 @@ const PAGE_BYTES: u32 = 8192;
 const FIRST_PFN: u32 = 100_000;
 const FRAMES: u32 = 4096;
 const TAKEN: u32 = 3000;
+
+/// The pool that passes are made with begins at the frame of the first page.
+const COLLECTED_PFN: u32 = 256;
+
+/// Words of the directory that name tables 2 to 4, for the pages behind the first table's.
+const MORE_TABLES: [(u32, u32); 3] = [
+    (OWN_DIRECTORY + 1, 0x8000_0002),
+    (OWN_DIRECTORY + 2, 0x8000_0003),
+    (OWN_DIRECTORY + 3, 0x8000_0004),
+];
 
 /// Valid and writable, for any frame.
 const MAPPED_LEAF: u32 = 0xD000_0000;
@@ -108,11 +119,31 @@ struct Heap {
 
 impl Heap {
     fn prepared(unit: Unit) -> Heap {
-        let (_, pool) = new_pool(FIRST_PFN, FRAMES);
+        Heap::of(unit, FIRST_PFN, TAKEN)
+    }
+
+    /// A new pool from this pfn on, of which so many frames are taken.
+    fn of(unit: Unit, first: u32, taken: u32) -> Heap {
+        let (_, pool) = new_pool(first, FRAMES);
         let mut heap = Heap { unit, pool };
-        for _ in 0..TAKEN {
+        for _ in 0..taken {
             heap.take();
         }
+        heap
+    }
+
+    /// The frames of the prepared pages are held.
+    fn with_pages_held(unit: Unit) -> Heap {
+        Heap::of(unit, COLLECTED_PFN, PAGES)
+    }
+
+    /// Every frame of the pool is mapped.
+    fn with_all_mapped(mut unit: Unit) -> Heap {
+        for (index, value) in MORE_TABLES {
+            unit.store(index, value);
+        }
+        let mut heap = Heap::of(unit, COLLECTED_PFN, 0);
+        heap.map_pages(FRAMES);
         heap
     }
 
@@ -135,6 +166,12 @@ impl Heap {
     }
 
     fn map_and_give(&mut self, index: u32) -> u64 {
+        let (worth, pfn) = self.map(index);
+        worth + self.give(pfn)
+    }
+
+    /// What a map adds to the sum, and its frame.
+    fn map(&mut self, index: u32) -> (u64, u32) {
         let Unit {
             registers,
             buffer,
@@ -143,7 +180,29 @@ impl Heap {
         let pool = &mut self.pool;
         let mapping = by_words::map(*registers, buffer, words, pool, index, MAPPED_LEAF);
         *registers = mapping.reply.registers;
-        worth(mapping.reply.outcome) + u64::from(mapping.pfn) + self.give(mapping.pfn)
+        let worth = worth(mapping.reply.outcome) + u64::from(mapping.pfn);
+        (worth, mapping.pfn)
+    }
+
+    /// A map of each page below this one.
+    fn map_pages(&mut self, pages: u32) -> u64 {
+        (0..pages).map(|page| self.map(FIRST_LEAF + page).0).sum()
+    }
+
+    fn pass(&mut self) -> u64 {
+        let Unit {
+            registers,
+            buffer,
+            words,
+        } = &mut self.unit;
+        let pass = by_tables::collect(*registers, buffer, words, &mut self.pool, OWN_ROOT);
+        *registers = pass.reply.registers;
+        worth(pass.reply.outcome) + u64::from(pass.given)
+    }
+
+    /// The pages are aged, taken away and mapped again.
+    fn collect_and_map(&mut self, pages: u32) -> u64 {
+        self.pass() + self.pass() + self.map_pages(pages)
     }
 }
 
@@ -215,7 +274,15 @@ fn sum_of(scenario: u32, count: u32) -> io::Result<u64> {
             let mut heap = Heap::prepared(unit);
             sum(count, |i| heap.map_and_give(FIRST_LEAF + i % 64))
         }
-        _ => return Err(Error::other("the scenario is 0 to 6")),
+        7 => {
+            let mut heap = Heap::with_pages_held(unit);
+            sum(count, |_| heap.collect_and_map(PAGES))
+        }
+        8 => {
+            let mut heap = Heap::with_all_mapped(unit);
+            sum(count, |_| heap.collect_and_map(FRAMES))
+        }
+        _ => return Err(Error::other("the scenario is 0 to 8")),
     })
 }
 

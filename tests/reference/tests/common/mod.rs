@@ -1,6 +1,8 @@
 //! What the tests of the calls share: a small unit with tables that are easily told.
 #![allow(dead_code)]
 
+pub mod numbers;
+
 use reference::*;
 
 pub const VALID: u32 = 1 << 30;

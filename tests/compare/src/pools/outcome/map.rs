@@ -29,7 +29,7 @@ const BITS: [(&str, u32); 4] = [("present", 31), ("valid", 30), ("kernel", 29), 
 const SOFTWARE: u32 = 0x1FF;
 
 pub fn all() -> Vec<String> {
-    let mut all = all_sets_of_grounds();
+    let mut all = refused::all_sets_of_named(CALL, &GROUNDS);
     all.extend(shape::all_misfits(CALL));
     all.extend(refused::all_fields(CALL));
     all.extend(refused::all_lengths(CALL));
@@ -53,15 +53,6 @@ pub fn all() -> Vec<String> {
     all.extend(single.map(String::from));
     all.push(refused::smallest_run(CALL));
     all
-}
-
-fn all_sets_of_grounds() -> Vec<String> {
-    (1..1u32 << GROUNDS.len())
-        .map(|set| {
-            let chosen = (0..GROUNDS.len()).filter(|n| set >> n & 1 == 1);
-            refused_on(&chosen.map(|n| GROUNDS[n]).collect::<Vec<&str>>())
-        })
-        .collect()
 }
 
 fn all_leaves() -> Vec<String> {
@@ -92,16 +83,13 @@ pub fn of(
         take::check_free(pool),
     ];
     let numbers = refused::grounds(&checks);
-    let grounds: Vec<&str> = (0..GROUNDS.len())
-        .filter(|&n| checks[n].is_err())
-        .map(|n| GROUNDS[n])
-        .collect();
+    let grounds = refused::named_grounds(&GROUNDS, &checks);
     let mut outcomes = refused::of_fields(CALL, registers, &numbers);
     outcomes.extend(refused::of_length(CALL, buffer, &numbers));
     outcomes.extend(refused::of_run(CALL, length, &numbers));
     match grounds[..] {
         [] => outcomes.extend(of_accepted(request, (index, leaf), runs, expected)),
-        _ => outcomes.push(refused_on(&grounds)),
+        _ => outcomes.push(refused::refused_on(CALL, &grounds)),
     }
     let mut note = |holds: bool, outcome: &str| {
         if holds {
@@ -162,11 +150,6 @@ fn of_leaf(leaf: u32, pfn: u32) -> Vec<String> {
     }
     outcomes.push(with_pfn(leaf % (1 << 19) == pfn));
     outcomes
-}
-
-fn refused_on(grounds: &[&str]) -> String {
-    let number = grounds[0].split(' ').next().unwrap_or_default();
-    format!("{CALL} refused {number}, grounds {}", grounds.join(", "))
 }
 
 fn with_bit(field: &str, bit: u32) -> String {

@@ -4,7 +4,7 @@ mod give;
 mod held;
 mod map;
 mod new_pool;
-mod shape;
+pub mod shape;
 mod take;
 
 use super::{fill, history, sequence};
@@ -55,6 +55,7 @@ pub fn of(request: &Request, runs: Runs, expected: &Answer) -> Vec<String> {
         PoolCall::Give { pfn } => give::of(pool, pfn, answered),
         PoolCall::Held => held::of(pool, answered),
         PoolCall::Map { index, leaf } => map::of(request, (index, leaf), runs, expected),
+        PoolCall::Collect { .. } => panic!("{call:?} is put by the comparison of passes"),
     };
     let is_map = matches!(call, PoolCall::Map { .. });
     let is_beside = request.registers != [0; FIELDS] && !request.buffer.is_empty();

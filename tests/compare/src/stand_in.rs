@@ -1,0 +1,43 @@
+//! Speaks as the program `probe`, by the second program, with a fault in its passes where one is
+//! named. So a comparison can be tried where there is no other program.
+
+use crate::passes::stand_ins::{Fault, StandIn, ALL};
+use crate::protocol::{Request, HEAD_WORDS};
+use std::io::{self, BufReader, BufWriter, ErrorKind, Read, Write};
+
+/// Answers requests to the end of the input. Without a name, lists the faults.
+pub fn speak(name: Option<&str>) -> Result<bool, String> {
+    let Some(name) = name else {
+        for fault in ALL {
+            println!("{fault:?}");
+        }
+        return Ok(true);
+    };
+    let fault = Fault::named(name).ok_or(format!("{name} is no fault"))?;
+    answer_all(StandIn::new(fault)).map_err(|error| error.to_string())?;
+    Ok(true)
+}
+
+fn answer_all(mut stand_in: StandIn) -> io::Result<()> {
+    let mut input = BufReader::new(io::stdin().lock());
+    let mut output = BufWriter::new(io::stdout().lock());
+    while let Some(request) = next_request(&mut input)? {
+        output.write_all(&stand_in.answer(&request).to_bytes())?;
+    }
+    output.flush()
+}
+
+/// None at the end of the input.
+fn next_request(input: &mut impl Read) -> io::Result<Option<Request>> {
+    let mut head = [0; 4 * HEAD_WORDS];
+    match input.read_exact(&mut head) {
+        Err(error) if error.kind() == ErrorKind::UnexpectedEof => return Ok(None),
+        read => read?,
+    }
+    let mut rest = vec![0; Request::rest_length(&head)];
+    input.read_exact(&mut rest)?;
+    match Request::from_bytes(&head, &rest) {
+        Some(request) => Ok(Some(request)),
+        None => Err(io::Error::other("there is no such call")),
+    }
+}
