@@ -27,6 +27,9 @@ const FAR_IDS: [u32; 5] = [65541, 65536, 1 << 31, 0x8000_0005, u32::MAX];
 /// How many wrong runs are handed over.
 const WRONG_RUNS: usize = 40;
 
+/// The longest run that `probe` takes has 16,384 words: this one is no multiple of 1,024.
+const LONGEST_WRONG_RUN: usize = 16_383;
+
 /// Passes by a program that has not been given a run yet.
 pub fn without_run(to: &mut dyn PutJudged, random: &mut Random) {
     for id in [0, 62, 63] {
@@ -81,7 +84,7 @@ fn of_set(random: &mut Random, has: impl Fn(usize) -> bool) -> Request {
     if has(3) {
         let length = plot.words.len();
         let wrong = random.pick(&[1023, length - 512, length - 1, length + 1, length + 512]);
-        plot.words.resize(wrong, 0);
+        plot.words.resize(wrong.min(LONGEST_WRONG_RUN), 0);
     }
     if has(4) {
         plot.id = match has(5) || random.one_in(2) {
