@@ -16,7 +16,7 @@ use Rattle.registers.proofs.RefusalLaws.{passed, when-accepted}
 use Rattle.heap.specs.Bits.{heldAt}
 use Rattle.heap.specs.Pools.{poolFits, holds}
 use Rattle.heap.specs.Give.{giveRefusal, givenPool, giveReply}
-use Rattle.heap.specs.Histories.{times}
+use Rattle.heap.specs.Sequences.{times}
 use Rattle.heap.specs.declared.Pool.{Pool}
 use Rattle.heap.specs.declared.PoolReply.{PoolReply}
 use Rattle.heap.proofs.PoolLaws.{holds-inside}

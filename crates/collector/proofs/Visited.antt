@@ -16,7 +16,7 @@ use Rattle.reach.proofs.LinkLaws.{leads-fits}
 use Rattle.store.specs.Rewrite.{Put}
 use Rattle.store.specs.Scan.{putAt}
 use Rattle.store.proofs.Scans.{Every, every-both, scan-every}
-use Rattle.heap.specs.Histories.{times}
+use Rattle.heap.specs.Sequences.{times}
 use Rattle.heap.specs.declared.Pool.{Pool}
 use Rattle.heap.proofs.Marks.{Sound}
 use Rattle.collector.specs.Visits.{inPool, isVisited, tableLeaves, treeLeaves, passLeaves}

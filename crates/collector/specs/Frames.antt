@@ -8,7 +8,7 @@ use Rattle.page_table.specs.Words.{leafValid, leafPfn}
 use Rattle.store.specs.Rewrite.{Put}
 use Rattle.heap.specs.Bits.{heldAt}
 use Rattle.heap.specs.Give.{giveRefusal, giveReply}
-use Rattle.heap.specs.Histories.{times}
+use Rattle.heap.specs.Sequences.{times}
 use Rattle.heap.specs.declared.Pool.{Pool}
 
 -- the pfns of leaves

@@ -31,7 +31,8 @@ use Rattle.heap.specs.Take.{fullRefusal, takeRefusal, takenPfn, takenPool, take
 use Rattle.heap.specs.Give.{giveRefusal, givenPool, giveReply}
 use Rattle.heap.specs.Held.{heldRefusal, heldOutcome}
 use Rattle.heap.specs.Map.{mapRefusal, mappedWord, mapPut, mapAnswer, bufferAfterMap, wordsAfterMap}
-use Rattle.heap.specs.Histories.{poolLeft, lastPool, ifDone, doneValue, takenBy, givenBy, takenIn, givenIn, historyOf}
+use Rattle.heap.specs.Sequences.{lastPool, takenIn, givenIn, historyOf}
+use Rattle.heap.specs.Histories.{poolLeft, ifDone, doneValue, takenBy, givenBy}
 use Rattle.heap.specs.Histories.{eventOf as poolEvent}
 use Rattle.mmu.specs.RawAccess.{rawRefusal, rawReply}
 use Rattle.mmu.specs.ServedAccess.{mayBeServed, servedRefusal, outcomeOf, triedReply, missed, loadedAt, registersLoaded, bufferLoaded}

@@ -14,7 +14,8 @@ use Rattle.heap.specs.Take.{takeReply}
 use Rattle.heap.specs.Give.{giveReply}
 use Rattle.heap.specs.Held.{heldOutcome}
 use Rattle.heap.specs.Map.{mappedWord, refusedMap, mapAnswer, bufferAfterMap, wordsAfterMap}
-use Rattle.heap.specs.Histories.{Event, Request, historyOf, lastPool, takenIn, givenIn}
+use Rattle.heap.specs.Sequences.{historyOf, lastPool, takenIn, givenIn}
+use Rattle.heap.specs.Histories.{Event, ownCalls, Request, eventOf}
 use Rattle.heap.specs.Histories.Request.{ToTake, ToGive, ToMap}
 use Rattle.heap.specs.declared.Pool.{Pool}
 use Rattle.heap.specs.declared.Mapped.{Mapped}
@@ -109,12 +110,12 @@ asked =
     ToTake ∷ ToMap pageLoaded 1025 0x50000123 ∷ ToGive 100 ∷ ToTake ∷ ToTake ∷ ToTake ∷ ToMap pageLoaded 1025 0 ∷ ToGive 99 ∷ ToGive 103 ∷ []
 
 unfoldable pub history : List Event
-history = historyOf (clearPool 100 3) asked
+history = historyOf ownCalls Request eventOf (clearPool 100 3) asked
 
 unfoldable pub histories : List Example
 histories =
-    (takenIn history gives 100 ∷ 101 ∷ 100 ∷ 102 ∷ [])
-    ∷ (givenIn history gives 100 ∷ [])
-    ∷ (lastPool (clearPool 100 3) history gives three 7)
-    ∷ (heldFrames (lastPool (clearPool 100 3) history) gives 3)
+    (takenIn ownCalls history gives 100 ∷ 101 ∷ 100 ∷ 102 ∷ [])
+    ∷ (givenIn ownCalls history gives 100 ∷ [])
+    ∷ (lastPool ownCalls (clearPool 100 3) history gives three 7)
+    ∷ (heldFrames (lastPool ownCalls (clearPool 100 3) history) gives 3)
     ∷ []

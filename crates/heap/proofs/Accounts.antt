@@ -10,7 +10,6 @@ use lib.Dec.{eqb}
 use lib.ListN.{length, length-append}
 use borrow.Author.Tests.{eqb-true, eqb-false, eq-eqb, ne-eqb, not-true}
 use Rattle.runs.specs.Bits.{bit}
-use Rattle.runs.proofs.Bits.{bit-le}
 use Rattle.runs.proofs.Bools.{clash}
 use Rattle.registers.specs.Refusals.{refuseUnless}
 use Rattle.registers.specs.Replies.{done}
@@ -25,8 +24,8 @@ use Rattle.heap.specs.Pools.{poolFits, isFull, lowestFree, heldFrames, h
 use Rattle.heap.specs.Take.{fullRefusal, takeRefusal, takenPfn, takenPool, takeReply, TakeGives}
 use Rattle.heap.specs.Give.{giveRefusal, givenPool, giveReply, GiveGives}
 use Rattle.heap.specs.Map.{mapPut, mapAnswer, MapGives}
-use Rattle.heap.specs.Histories.{Event, Kept, poolLeft, KeptThroughout, lastPool}
-use Rattle.heap.specs.Histories.{ifDone, doneValue, takenBy, givenBy, takenIn, givenIn, times}
+use Rattle.heap.specs.Sequences.{times}
+use Rattle.heap.specs.Histories.{Event, Kept, poolLeft, ifDone, doneValue, takenBy, givenBy}
 use Rattle.heap.specs.Histories.Event.{Take, Give, Map}
 use Rattle.heap.specs.declared.Pool.{Pool}
 use Rattle.heap.specs.declared.PoolReply.{PoolReply}
@@ -196,28 +195,9 @@ module _ (p : Pool) (sound : Sound p) where
   account-of (Give pfn reply) kept = give-told pfn reply kept
   account-of (Map m index leaf answer b words) kept = map-told m index leaf answer b words kept
 
--- the account of calls one after another
-pub account : (p : Pool) → Sound p → (es : List Event) → KeptThroughout p es → Account p (lastPool p es) (takenIn es) (givenIn es)
-unfolding KeptThroughout lastPool takenIn givenIn
-account p sound [] kept = nothing p sound
-account p sound (e ∷ es) kept =
-    let first = account-of p sound e (kept .0) in
-    both-parts p (poolLeft e) (lastPool (poolLeft e) es) (takenBy e) (givenBy e) (takenIn es) (givenIn es) first
-    (account (poolLeft e) (first .sound-still) es (kept .1))
-
 -- a call that takes a frame gives none
 pub taker-gives-none : (e : Event) (pfn : ℕ) → takenBy e ≡ pfn ∷ [] → givenBy e ≡ []
 unfolding takenBy givenBy
 taker-gives-none (Take reply) pfn q = refl
 taker-gives-none (Give given reply) pfn q = let z : _≡_ {A = ℕ} 0 1 = ap length q in absurd (omega arith)
 taker-gives-none (Map m index leaf answer b words) pfn q = refl
-
--- the pool that a taken frame comes from does not hold it, and the pool that is left does
-pub taken-now : (p : Pool) → Sound p → (e : Event) → Kept p e → (pfn : ℕ) → takenBy e ≡ pfn ∷ []
-    → (bit (holds p pfn) ≡ 0) × (bit (holds (poolLeft e) pfn) ≡ 1)
-taken-now p sound e kept pfn q =
-    let frame = account-of p sound e kept .frame pfn in
-    let one : times pfn (takenBy e) ≡ 1 = ap (times pfn) q ∙ picked-times true pfn in
-    let none : times pfn (givenBy e) ≡ 0 = ap (times pfn) (taker-gives-none e pfn q) ∙ picked-times false pfn in
-    let most = bit-le (holds (poolLeft e) pfn) in
-    (omega arith, omega arith)

@@ -1,8 +1,8 @@
--- The balance from a new pool, and that no frame is live twice. Assumes nothing.
+-- What an account from a new pool tells: the balance. Assumes nothing.
 use Prim.Native.Nat.{ℕ, _+_, _-_, _/_, _%_}
 use mathlib.Core.Path.{_≡_, refl, sym, ap, ap₂, _∙_, subst}
 use mathlib.Core.Bool.{Bool, true, false, _&&_}
-use mathlib.Core.List.{List, [], _∷_, _++_}
+use mathlib.Core.List.{List}
 use native.Mathlib.Nat.{add-zero}
 use native.Mathlib.Omega.{arith}
 use lib.Dec.{leb, ltb}
@@ -21,14 +21,14 @@ use Rattle.heap.specs.NewPool.{newRefusal, clearPool, newReply, NewPoolG
 use Rattle.heap.specs.Take.{fullRefusal, takeRefusal}
 use Rattle.heap.specs.Give.{giveRefusal}
 use Rattle.heap.specs.Held.{heldRefusal, heldOutcome}
-use Rattle.heap.specs.Histories.{Event, poolLeft, KeptThroughout, lastPool, takenIn, givenIn, times}
-use Rattle.heap.specs.Balance.{heldBy, Balanced, Balance, NeverTwiceLive}
+use Rattle.heap.specs.Sequences.{times}
+use Rattle.heap.specs.Balance.{heldBy, Balanced}
 use Rattle.heap.specs.declared.Pool.{Pool}
 use Rattle.heap.specs.declared.PoolReply.{PoolReply}
 use Rattle.runs.proofs.Flags.{flag-none}
 use Rattle.runs.proofs.Counts.{count-both, not-all}
 use Rattle.heap.proofs.Marks.{Sound}
-use Rattle.heap.proofs.Accounts.{Account, account, account-of, taken-now}
+use Rattle.heap.proofs.Accounts.{Account}
 
 -- one more of t than of g, or as many
 by-bit : (b : Bool) (g t : ℕ) → t ≡ g + bit b → b ≡ ltb g t
@@ -103,29 +103,3 @@ module _ (first size : ℕ) where
 
         held : heldFrames now ≡ length taken - length given
         held = let c = counts in omega arith
-
-pub balance : Balance
-unfolding Balance
-balance first size reply made z history kept =
-    balanced first size reply made z (lastPool (reply .pool) history) (takenIn history) (givenIn history)
-    (account (reply .pool) (new-sound first size reply made z) history kept)
-
--- a sequence in two parts
-kept-parts : (p : Pool) (xs ys : List Event) → KeptThroughout p (xs ++ ys) → KeptThroughout p xs × KeptThroughout (lastPool p xs) ys
-unfolding KeptThroughout lastPool
-kept-parts p [] ys kept = (tt, kept)
-kept-parts p (x ∷ xs) ys kept = let rest = kept-parts (poolLeft x) xs ys (kept .1) in ((kept .0, rest .0), rest .1)
-
-pub never-twice-live : NeverTwiceLive
-unfolding NeverTwiceLive KeptThroughout
-never-twice-live first size reply made z before between one other kept pfn took took-again =
-    let early = kept-parts (reply .pool) before (one ∷ (between ++ (other ∷ []))) kept in
-    let start = account (reply .pool) (new-sound first size reply made z) before (early .0) in
-    let here = lastPool (reply .pool) before in
-    let held = taken-now here (start .sound-still) one (early .1 .0) pfn took .1 in
-    let late = kept-parts (poolLeft one) between (other ∷ []) (early .1 .1) in
-    let next = account-of here (start .sound-still) one (early .1 .0) in
-    let between-told = account (poolLeft one) (next .sound-still) between (late .0) in
-    let free = taken-now (lastPool (poolLeft one) between) (between-told .sound-still) other (late .1 .0) pfn took-again .0 in
-    let frame = between-told .frame pfn in
-    omega arith

@@ -6,6 +6,7 @@ pub mod Marks
 pub mod Accounts
 pub mod OneFrame
 pub mod Balance
+pub mod Sequences
 pub mod Histories
 pub mod Mapping
 pub mod PastTheSize

@@ -1,4 +1,4 @@
--- Bits past the size are ignored and stay. Assumes nothing.
+-- Bits past the size are ignored. Assumes nothing.
 use Prim.Native.Nat.{ℕ, _+_, _-_, _/_, _<_}
 use mathlib.Core.Path.{_≡_, refl, sym, ap, ap₂, _∙_, subst}
 use mathlib.Core.Bool.{Bool, true, false, not, cond, _&&_}
@@ -23,7 +23,7 @@ use Rattle.heap.specs.Take.{fullRefusal, takeRefusal, takenPfn, takenPoo
 use Rattle.heap.specs.Give.{giveRefusal, givenPool, giveReply}
 use Rattle.heap.specs.Held.{heldRefusal, heldOutcome}
 use Rattle.heap.specs.Map.{mapRefusal, mappedWord, mapPut, mapAnswer, bufferAfterMap, wordsAfterMap}
-use Rattle.heap.specs.PastTheSize.{SameFrames, AnsweredAlike, PastIgnored, PastStays}
+use Rattle.heap.specs.PastTheSize.{SameFrames, AnsweredAlike, PastIgnored}
 use Rattle.heap.specs.declared.Pool.{Pool}
 use Rattle.heap.specs.declared.PoolReply.{PoolReply}
 use Rattle.heap.specs.declared.Mapped.{Mapped}
@@ -31,11 +31,7 @@ use Rattle.heap.proofs.PoolLaws.{pool-in}
 use Rattle.heap.proofs.CallLaws.{held-pfn}
 use Rattle.heap.proofs.MapLaws.{map-grounds}
 use Rattle.heap.proofs.Marks.{mark-same, mark-other}
-use Rattle.heap.proofs.Accounts.{account, free-frame}
-
-pub past-stays : PastStays
-unfolding PastStays
-past-stays p long fits history kept place l = account p (record { all-words = long; fits = fits }) history kept .past place l
+use Rattle.heap.proofs.Accounts.{free-frame}
 
 -- the pools of two answers that are accepted or refused together
 leaves-same : {A : Type 0} (f : A → Pool) (n k : ℕ) → n ≡ k → (a r c d : A) → (n ≡ 0 → SameFrames (f a) (f c)) → SameFrames (f r) (f d)

@@ -13,7 +13,8 @@ use Rattle.heap.specs.NewPool.{newRefusal, NewPoolGives}
 use Rattle.heap.specs.Take.{takeRefusal}
 use Rattle.heap.specs.Give.{giveRefusal}
 use Rattle.heap.specs.Held.{heldOutcome}
-use Rattle.heap.specs.Histories.{Event, KeptThroughout, lastPool, takenBy, takenIn, givenIn, times}
+use Rattle.heap.specs.Sequences.{Calls, KeptThroughout, lastPool, takenIn, givenIn, times}
+use Rattle.heap.specs.Histories.{ownCalls}
 use Rattle.heap.specs.declared.Pool.{Pool}
 use Rattle.heap.specs.declared.PoolReply.{PoolReply}
 
@@ -43,15 +44,23 @@ pub record Balanced (first size : ℕ) (taken given : List ℕ) (p : Pool) : Typ
       → giveRefusal p pfn ≡ refuseUnless (ltb (times pfn given) (times pfn taken)) 11 0
 
 -- "From a new pool, all free, each call handed the last one's pool"; any sequence of calls, so at the new pool and after each call
-unfoldable pub Balance : Type 0
-Balance =
+unfoldable pub BalanceOf : Calls → Type 0
+BalanceOf c =
     (first size : ℕ) (reply : PoolReply) → NewPoolGives first size reply → newRefusal first size ≡ 0
-    → (history : List Event) → KeptThroughout (reply .pool) history
-    → Balanced first size (takenIn history) (givenIn history) (lastPool (reply .pool) history)
+    → (history : List (c .Event)) → KeptThroughout c (reply .pool) history
+    → Balanced first size (takenIn c history) (givenIn c history) (lastPool c (reply .pool) history)
 
--- two live takes never answer the same frame: between two takes or mappings that answer it, it is given
-unfoldable pub NeverTwiceLive : Type 0
-NeverTwiceLive =
+-- two live takes never answer the same frame: between two calls that answer it, takes or mappings, it is given
+unfoldable pub NeverTwiceLiveOf : Calls → Type 0
+NeverTwiceLiveOf c =
     (first size : ℕ) (reply : PoolReply) → NewPoolGives first size reply → newRefusal first size ≡ 0
-    → (before between : List Event) (one other : Event) → KeptThroughout (reply .pool) (before ++ (one ∷ between ++ (other ∷ [])))
-    → (pfn : ℕ) → takenBy one ≡ pfn ∷ [] → takenBy other ≡ pfn ∷ [] → 1 ≤ times pfn (givenIn between)
+    → (before between : List (c .Event)) (one other : c .Event)
+    → KeptThroughout c (reply .pool) (before ++ (one ∷ between ++ (other ∷ [])))
+    → (pfn : ℕ) → c .takenBy one ≡ pfn ∷ [] → c .takenBy other ≡ pfn ∷ [] → 1 ≤ times pfn (givenIn c between)
+
+-- of takes, gives and maps
+unfoldable pub Balance : Type 0
+Balance = BalanceOf ownCalls
+
+unfoldable pub NeverTwiceLive : Type 0
+NeverTwiceLive = NeverTwiceLiveOf ownCalls

@@ -1,12 +1,11 @@
--- Calls on a pool one after another, with what each answered and left, and the frames that they took and gave.
-use Prim.Native.Nat.{ℕ, _+_}
-use mathlib.Core.List.{List, [], _∷_, _++_}
-use lib.Dec.{eqb}
-use Rattle.runs.specs.Bits.{bit}
+-- Takes, gives and maps, with what each answered and left, and the frames that they took and gave.
+use Prim.Native.Nat.{ℕ}
+use mathlib.Core.List.{List, [], _∷_}
 use Rattle.registers.specs.declared.Outcome.{Outcome}
 use Rattle.registers.specs.declared.Outcome.the-variants.{At, Fault, Done, Refused}
 use Rattle.slots.specs.Buffer.{Buffer}
 use Rattle.store.specs.Machine.{Machine}
+use Rattle.heap.specs.Sequences.{Calls, EveryHistoryOf}
 use Rattle.heap.specs.Take.{takeReply, TakeGives}
 use Rattle.heap.specs.Give.{giveReply, GiveGives}
 use Rattle.heap.specs.Map.{mapAnswer, bufferAfterMap, wordsAfterMap, MapGives}
@@ -31,15 +30,6 @@ unfoldable pub poolLeft : Event → Pool
 poolLeft (Take reply) = reply .pool
 poolLeft (Give pfn reply) = reply .pool
 poolLeft (Map m index leaf answer buffer-after words-after) = answer .pool
-
--- "each call handed the last one's pool", refused ones too
-unfoldable pub KeptThroughout : Pool → List Event → Type 0
-KeptThroughout p [] = Unit {0}
-KeptThroughout p (e ∷ es) = Kept p e × KeptThroughout (poolLeft e) es
-
-unfoldable pub lastPool : Pool → List Event → Pool
-lastPool p [] = p
-lastPool p (e ∷ es) = lastPool (poolLeft e) es
 
 -- some frames where a call was accepted, none where it was refused
 unfoldable pub ifDone : Outcome → List ℕ → List ℕ
@@ -66,19 +56,8 @@ givenBy (Take reply) = []
 givenBy (Give pfn reply) = ifDone (reply .outcome) (pfn ∷ [])
 givenBy (Map m index leaf answer buffer-after words-after) = []
 
--- "the history of takes, mappings among them, and gives"
-unfoldable pub takenIn : List Event → List ℕ
-takenIn [] = []
-takenIn (e ∷ es) = takenBy e ++ takenIn es
-
-unfoldable pub givenIn : List Event → List ℕ
-givenIn [] = []
-givenIn (e ∷ es) = givenBy e ++ givenIn es
-
--- how often a pfn stands in a list
-unfoldable pub times : (pfn : ℕ) → List ℕ → ℕ
-times pfn [] = 0
-times pfn (x ∷ xs) = bit (eqb x pfn) + times pfn xs
+abbrev pub ownCalls : Calls
+ownCalls = record { Event = Event; Kept = Kept; poolLeft = poolLeft; takenBy = takenBy; givenBy = givenBy }
 
 -- what a user asks of a pool, and the event in which the call answers as its definition says
 pub data Request : Type 0 where
@@ -91,10 +70,5 @@ eventOf p ToTake = Take (takeReply p)
 eventOf p (ToGive pfn) = Give pfn (giveReply p pfn)
 eventOf p (ToMap m index leaf) = Map m index leaf (mapAnswer m p index leaf) (bufferAfterMap m p index leaf) (wordsAfterMap m p index leaf)
 
-unfoldable pub historyOf : Pool → List Request → List Event
-historyOf p [] = []
-historyOf p (q ∷ qs) = eventOf p q ∷ historyOf (poolLeft (eventOf p q)) qs
-
--- whatever is asked, there is such a history: what is said of all of them is not said of none
 unfoldable pub EveryHistory : Type 0
-EveryHistory = (p : Pool) (requests : List Request) → KeptThroughout p (historyOf p requests)
+EveryHistory = EveryHistoryOf ownCalls Request eventOf

@@ -6,6 +6,7 @@ pub mod Give
 pub mod Held
 pub mod Map
 pub mod OneFrame
+pub mod Sequences
 pub mod Histories
 pub mod Balance
 pub mod Mapping

@@ -11,7 +11,8 @@ use Rattle.heap.specs.Take.{takeReply}
 use Rattle.heap.specs.Give.{giveReply}
 use Rattle.heap.specs.Held.{heldOutcome}
 use Rattle.heap.specs.Map.{mapAnswer, bufferAfterMap, wordsAfterMap}
-use Rattle.heap.specs.Histories.{Event, KeptThroughout, lastPool}
+use Rattle.heap.specs.Sequences.{Calls, KeptThroughout, lastPool}
+use Rattle.heap.specs.Histories.{ownCalls}
 use Rattle.heap.specs.declared.Pool.{Pool}
 
 -- two pools with the same frames, of which the same are held; bits past the size may differ
@@ -37,7 +38,10 @@ unfoldable pub PastIgnored : Type 0
 PastIgnored = (p q : Pool) → length (p .bits) ≡ 64 → length (q .bits) ≡ 64 → SameFrames p q → AnsweredAlike p q
 
 -- whatever the calls, each handed the last one's pool, no bit past the size changes
+unfoldable pub PastStaysOf : Calls → Type 0
+PastStaysOf c =
+    (p : Pool) → length (p .bits) ≡ 64 → poolFits p ≡ true → (history : List (c .Event)) → KeptThroughout c p history
+    → (place : ℕ) → p .size ≤ place → heldAt ((lastPool c p history) .bits) place ≡ heldAt (p .bits) place
+
 unfoldable pub PastStays : Type 0
-PastStays =
-    (p : Pool) → length (p .bits) ≡ 64 → poolFits p ≡ true → (history : List Event) → KeptThroughout p history
-    → (place : ℕ) → p .size ≤ place → heldAt ((lastPool p history) .bits) place ≡ heldAt (p .bits) place
+PastStays = PastStaysOf ownCalls

@@ -17,7 +17,7 @@ use Rattle.page_table.specs.declared.Walk.the-variants.{Leaf}
 use Rattle.store.specs.Rewrite.{Put}
 use Rattle.store.specs.Scan.{putAt}
 use Rattle.heap.specs.Pools.{holds}
-use Rattle.heap.specs.Histories.{times}
+use Rattle.heap.specs.Sequences.{times}
 use Rattle.heap.specs.declared.Pool.{Pool}
 use Rattle.heap.proofs.Accounts.{Account, times-append}
 use Rattle.collector.specs.Visits.{inPool, aged, passLeaves}

@@ -1,4 +1,4 @@
--- Bits past the size make no difference to a pass, and stay. Assumes nothing.
+-- Bits past the size make no difference to a pass. Assumes nothing.
 use Prim.Native.Nat.{ℕ, _+_, _-_}
 use mathlib.Core.Path.{_≡_, refl, sym, ap, ap₂, _∙_, subst}
 use mathlib.Core.Bool.{Bool, true, false, cond, not, _&&_}
@@ -19,7 +19,7 @@ use Rattle.store.specs.Stores.{afterStores, emptiedIn}
 use Rattle.heap.specs.Bits.{heldAt}
 use Rattle.heap.specs.Pools.{framesFit, poolFits, poolWith, donePool, refusedPool}
 use Rattle.heap.specs.Give.{giveRefusal, givenPool, giveReply}
-use Rattle.heap.specs.Histories.{times}
+use Rattle.heap.specs.Sequences.{times}
 use Rattle.heap.specs.PastTheSize as heap
 use Rattle.heap.specs.PastTheSize.{SameFrames}
 use Rattle.heap.specs.declared.Pool.{Pool}
@@ -30,12 +30,7 @@ use Rattle.collector.specs.Frames.{pfnsOf, givenOf, mappedTwice, mappedUnheld, 
 use Rattle.trees.specs.Trees.{treeFits}
 use Rattle.collector.specs.Collect.{visitedBy, storesOf, mayCollect, collectRefusal, collectAnswer, bufferAfterCollect, wordsAfterCollect}
 use Rattle.collector.specs.declared.Collected.{Collected}
-use Rattle.passes.specs.PastTheSize.{PassedAlike, PastIgnored, PastStays}
-use Rattle.passes.proofs.Balance.{account}
-
-pub past-stays : PastStays
-unfolding PastStays
-past-stays p whole fits history kept place l = account p (record { all-words = whole; fits = fits }) history kept .past place l
+use Rattle.passes.specs.PastTheSize.{PassedAlike, PastIgnored}
 
 give-length : (p : Pool) (pfn : ℕ) → length ((giveReply p pfn) .pool .bits) ≡ length (p .bits)
 unfolding giveReply byRefusal givenPool poolWith

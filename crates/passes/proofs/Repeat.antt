@@ -11,7 +11,7 @@ use Rattle.runs.specs.Bits.{bit, withFlag}
 use Rattle.page_table.specs.Words.{present, number, leafValid, leafPfn}
 use Rattle.page_table.specs.Reads.{leadsOn}
 use Rattle.store.specs.Rewrite.{Put}
-use Rattle.heap.specs.Histories.{times}
+use Rattle.heap.specs.Sequences.{times}
 use Rattle.heap.specs.declared.Pool.{Pool}
 use Rattle.heap.proofs.Marks.{Sound}
 use Rattle.store.specs.Scan.{putAt, putsFrom}

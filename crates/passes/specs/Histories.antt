@@ -1,15 +1,14 @@
--- Calls on a pool one after another, passes among them.
-use Prim.Native.Nat.{ℕ, _≤_}
-use mathlib.Core.Path.{_≡_}
-use mathlib.Core.List.{List, [], _∷_, _++_}
+-- Takes, gives, maps and passes on a pool, one after another.
+use Prim.Native.Nat.{ℕ}
+use mathlib.Core.List.{List, []}
 use Rattle.slots.specs.Buffer.{Buffer}
 use Rattle.store.specs.Machine.{Machine}
-use Rattle.heap.specs.NewPool.{newRefusal, NewPoolGives}
 use Rattle.heap.specs.Histories as heap
-use Rattle.heap.specs.Histories.{ifDone, times}
-use Rattle.heap.specs.Balance.{Balanced}
+use Rattle.heap.specs.Histories.{ifDone}
+use Rattle.heap.specs.Sequences.{Calls, EveryHistoryOf}
+use Rattle.heap.specs.Balance.{BalanceOf, NeverTwiceLiveOf}
+use Rattle.heap.specs.PastTheSize.{PastStaysOf}
 use Rattle.heap.specs.declared.Pool.{Pool}
-use Rattle.heap.specs.declared.PoolReply.{PoolReply}
 use Rattle.collector.specs.Visits.{passLeaves}
 use Rattle.collector.specs.Frames.{givenOf}
 use Rattle.collector.specs.Collect.{collectAnswer, bufferAfterCollect, wordsAfterCollect, CollectGives}
@@ -30,15 +29,6 @@ unfoldable pub poolLeft : Event → Pool
 poolLeft (OfPool e) = heap.poolLeft e
 poolLeft (OfPass m id answer buffer-after words-after) = answer .pool
 
--- "each call handed the last one's pool", refused ones too
-unfoldable pub KeptThroughout : Pool → List Event → Type 0
-KeptThroughout p [] = Unit {0}
-KeptThroughout p (e ∷ es) = Kept p e × KeptThroughout (poolLeft e) es
-
-unfoldable pub lastPool : Pool → List Event → Pool
-lastPool p [] = p
-lastPool p (e ∷ es) = lastPool (poolLeft e) es
-
 -- the frames that a call took and those that it gave, told by its arguments and its answer: an accepted pass gives those of the visited
 -- leaves that were not valid. The pool of the answer has the first pfn and the size of the one that was handed in.
 unfoldable pub takenBy : Event → List ℕ
@@ -50,27 +40,20 @@ givenBy (OfPool e) = heap.givenBy e
 givenBy (OfPass m id answer buffer-after words-after) =
     ifDone (answer .reply .outcome) (givenOf (passLeaves (m .words) (answer .pool .first) (answer .pool .size) id))
 
-unfoldable pub takenIn : List Event → List ℕ
-takenIn [] = []
-takenIn (e ∷ es) = takenBy e ++ takenIn es
-
-unfoldable pub givenIn : List Event → List ℕ
-givenIn [] = []
-givenIn (e ∷ es) = givenBy e ++ givenIn es
+abbrev pub callsWithPasses : Calls
+callsWithPasses = record { Event = Event; Kept = Kept; poolLeft = poolLeft; takenBy = takenBy; givenBy = givenBy }
 
 -- "W-203's balance covers it": at the new pool and after each call
 unfoldable pub BalanceWithPasses : Type 0
-BalanceWithPasses =
-    (first size : ℕ) (reply : PoolReply) → NewPoolGives first size reply → newRefusal first size ≡ 0
-    → (history : List Event) → KeptThroughout (reply .pool) history
-    → Balanced first size (takenIn history) (givenIn history) (lastPool (reply .pool) history)
+BalanceWithPasses = BalanceOf callsWithPasses
 
 -- two live takes never answer the same frame: between two takes or mappings that answer it, it is given, by a give or by a pass
 unfoldable pub NeverTwiceLive : Type 0
-NeverTwiceLive =
-    (first size : ℕ) (reply : PoolReply) → NewPoolGives first size reply → newRefusal first size ≡ 0
-    → (before between : List Event) (one other : Event) → KeptThroughout (reply .pool) (before ++ (one ∷ between ++ (other ∷ [])))
-    → (pfn : ℕ) → takenBy one ≡ pfn ∷ [] → takenBy other ≡ pfn ∷ [] → 1 ≤ times pfn (givenIn between)
+NeverTwiceLive = NeverTwiceLiveOf callsWithPasses
+
+-- no bit past the size changes
+unfoldable pub PastStays : Type 0
+PastStays = PastStaysOf callsWithPasses
 
 -- what a user asks of a pool, and the event in which the call answers as its definition says
 pub data Request : Type 0 where
@@ -81,10 +64,5 @@ unfoldable pub eventOf : Pool → Request → Event
 eventOf p (ToPool r) = OfPool (heap.eventOf p r)
 eventOf p (ToPass m id) = OfPass m id (collectAnswer m p id) (bufferAfterCollect m p id) (wordsAfterCollect m p id)
 
-unfoldable pub historyOf : Pool → List Request → List Event
-historyOf p [] = []
-historyOf p (q ∷ qs) = eventOf p q ∷ historyOf (poolLeft (eventOf p q)) qs
-
--- whatever is asked, there is such a history: what is said of all of them is not said of none
 unfoldable pub EveryHistory : Type 0
-EveryHistory = (p : Pool) (requests : List Request) → KeptThroughout p (historyOf p requests)
+EveryHistory = EveryHistoryOf callsWithPasses Request eventOf

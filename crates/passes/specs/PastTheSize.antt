@@ -1,16 +1,11 @@
--- "bits past its size are ignored and stay": by passes too.
-use Prim.Native.Nat.{ℕ, _≤_}
+-- "bits past its size are ignored": by passes too.
+use Prim.Native.Nat.{ℕ}
 use mathlib.Core.Path.{_≡_}
-use mathlib.Core.Bool.{true}
-use mathlib.Core.List.{List}
 use lib.ListN.{length}
 use Rattle.store.specs.Machine.{Machine}
-use Rattle.heap.specs.Bits.{heldAt}
-use Rattle.heap.specs.Pools.{poolFits}
 use Rattle.heap.specs.PastTheSize.{SameFrames}
 use Rattle.heap.specs.declared.Pool.{Pool}
 use Rattle.collector.specs.Collect.{collectAnswer, bufferAfterCollect, wordsAfterCollect}
-use Rattle.passes.specs.Histories.{Event, KeptThroughout, lastPool}
 
 -- two pools with the same frames, of which the same are held: a pass answers both alike, and leaves the same
 pub record PassedAlike (m : Machine) (p q : Pool) (id : ℕ) : Type 0 where
@@ -23,9 +18,3 @@ pub record PassedAlike (m : Machine) (p q : Pool) (id : ℕ) : Type 0 where
 unfoldable pub PastIgnored : Type 0
 PastIgnored =
     (m : Machine) (p q : Pool) (id : ℕ) → length (p .bits) ≡ 64 → length (q .bits) ≡ 64 → SameFrames p q → PassedAlike m p q id
-
--- whatever the calls, each handed the last one's pool, no bit past the size changes
-unfoldable pub PastStays : Type 0
-PastStays =
-    (p : Pool) → length (p .bits) ≡ 64 → poolFits p ≡ true → (history : List Event) → KeptThroughout p history
-    → (place : ℕ) → p .size ≤ place → heldAt ((lastPool p history) .bits) place ≡ heldAt (p .bits) place
