@@ -3,6 +3,7 @@
 ghost use Prim.Native.Nat.{_^_, _≤_, _<_};
 ghost use Rattle.entry.specs.Address.{PAGE, PAGES};
 use access::Physical;
+use collector::Collected;
 use heap::Mapped;
 use heap::Pool;
 use mmu::RawReply;
@@ -18,7 +19,7 @@ const TLB_HI: u32 = 7;
 
 const TLB_LO: u32 = 8;
 
-// Where the pool of the measurements begins, how many frames it has, and how many of them are held at first.
+// Where the pool of scenarios 5 and 6 begins, how many frames it has, and how many of them are held at first.
 const FIRST_PFN: u32 = 100000;
 
 const POOL: u32 = 4096;
@@ -41,7 +42,15 @@ const WE: u32 = 1 << 28;
 
 const LEAF: u32 = page_table::PRESENT + VALID + WE;
 
-const FIRST_LEAF: u32 = LEAF + 256;
+const FIRST_LEAF: u32 = LEAF + PAGE_PFN;
+
+// The frame of page 0, where the pool of scenarios 7 and 8 begins.
+const PAGE_PFN: u32 = 256;
+
+// How many pages identification 5 has; and how many where its directory names four tables.
+const PAGES: u32 = 80;
+
+const ALL_PAGES: u32 = 4 * TABLE;
 
 // How many values the software bits of a leaf have, and what the lowest counts.
 const SOFTWARE: u64 = 512;
@@ -176,12 +185,12 @@ fn added(sum: u64, outcome: Outcome) -> u64 {
     std::num::wrapping_add_u64(sum, worth(outcome))
 }
 
-// A pool of 4,096 frames of which the first 3,000 are held.
-fn held_pool() -> Pool {
-    let fresh = heap::new_pool(FIRST_PFN, POOL);
+// A pool of 4,096 frames of which so many, the first ones, are held.
+fn held_pool(first: u32, held: u32) -> Pool {
+    let fresh = heap::new_pool(first, POOL);
     let mut pool = fresh.pool;
     let mut i: u32 = 0;
-    while i < HELD {
+    while i < held {
         let taken = heap::take(pool);
         pool = taken.pool;
         i += 1;
@@ -191,7 +200,7 @@ fn held_pool() -> Pool {
 
 // Scenario 5: a frame is given and taken again.
 fn run_frames(count: u32) -> u64 {
-    let mut pool = held_pool();
+    let mut pool = held_pool(FIRST_PFN, HELD);
     let mut sum: u64 = 0;
     let mut i: u64 = 0;
     while i < count as u64 {
@@ -215,7 +224,7 @@ fn counted_map(sum: u64, mapped: Mapped) -> u64 {
 
 // Scenario 6: a frame is mapped and given back.
 fn run_maps(r: Registers, buffer: &mut [u64], words: &mut [u32], count: u32) -> u64 {
-    let mut pool = held_pool();
+    let mut pool = held_pool(FIRST_PFN, HELD);
     let mut sum: u64 = 0;
     let mut i: u64 = 0;
     while i < count as u64 {
@@ -229,6 +238,97 @@ fn run_maps(r: Registers, buffer: &mut [u64], words: &mut [u32], count: u32) -> 
         i += 1;
     }
     sum
+}
+
+// A sum on its way, and the pool then.
+struct Going {
+    sum: u64,
+    pool: Pool,
+}
+
+// Maps so many pages, from page 0 on.
+fn map_pages(r: Registers, buffer: &mut [u64], words: &mut [u32], pages: u32, begun: Going) -> Going
+    requires { ⌜ pages ≤ 4096 ⌝ }
+{
+    let mut sum = begun.sum;
+    let mut pool = begun.pool;
+    let mut page: u32 = 0;
+    while page < pages {
+        let mapped = heap::map(r, buffer, words, pool, TABLE + page, LEAF);
+        sum = counted_map(sum, mapped);
+        pool = mapped.pool;
+        page += 1;
+    }
+    Going { sum, pool }
+}
+
+// What a pass adds to the sum.
+fn counted_pass(sum: u64, collected: Collected) -> u64 {
+    let reply = collected.reply;
+    std::num::wrapping_add_u64(counted(sum, reply), collected.given as u64)
+}
+
+// A pass for identification 5.
+fn pass(r: Registers, buffer: &mut [u64], words: &mut [u32], begun: Going) -> Going {
+    let before = begun.pool;
+    let collected = collector::collect(r, buffer, words, before, 5);
+    let pool = collected.pool;
+    Going {
+        sum: counted_pass(begun.sum, collected),
+        pool,
+    }
+}
+
+// Two passes, the second of which gives every frame back.
+fn two_passes(r: Registers, buffer: &mut [u64], words: &mut [u32], begun: Going) -> Going {
+    let aged = pass(r, buffer, words, begun);
+    pass(r, buffer, words, aged)
+}
+
+// Two passes, and the pages mapped again.
+fn map_again(r: Registers, buffer: &mut [u64], words: &mut [u32], pages: u32, begun: Going) -> Going
+    requires { ⌜ pages ≤ 4096 ⌝ }
+{
+    let given = two_passes(r, buffer, words, begun);
+    map_pages(r, buffer, words, pages, given)
+}
+
+// Scenarios 7 and 8: all pages go and come again.
+fn run_passes(
+    r: Registers,
+    buffer: &mut [u64],
+    words: &mut [u32],
+    pool: Pool,
+    pages: u32,
+    count: u32,
+) -> u64
+    requires { ⌜ pages ≤ 4096 ⌝ }
+{
+    let mut going = Going { sum: 0, pool };
+    let mut i: u64 = 0;
+    while i < count as u64 {
+        going = map_again(r, buffer, words, pages, going);
+        i += 1;
+    }
+    going.sum
+}
+
+// Has the directory name tables 2 to 4 too.
+fn name_tables(r: Registers, buffer: &mut [u64], words: &mut [u32]) {
+    let mut k: u32 = 1;
+    while k < 4 {
+        store::table_store(r, buffer, words, DIRECTORY + k, NUMBER_1 + k);
+        k += 1;
+    }
+}
+
+// Scenario 8: four tables, and every page of them mapped; answers the pool after that.
+fn fill_tables(r: Registers, buffer: &mut [u64], words: &mut [u32]) -> Pool {
+    name_tables(r, buffer, words);
+    let pool = held_pool(PAGE_PFN, 0);
+    let begun = Going { sum: 0, pool };
+    let mapped = map_pages(r, buffer, words, ALL_PAGES, begun);
+    mapped.pool
 }
 
 fn run(r: Registers, buffer: &mut [u64], words: &mut [u32], scenario: u32, count: u32) -> u64 {
@@ -247,6 +347,13 @@ fn run(r: Registers, buffer: &mut [u64], words: &mut [u32], scenario: u32, count
     if scenario == 6 {
         return run_maps(r, buffer, words, count);
     }
+    if scenario == 7 {
+        return run_passes(r, buffer, words, held_pool(PAGE_PFN, PAGES), PAGES, count);
+    }
+    if scenario == 8 {
+        let pool = fill_tables(r, buffer, words);
+        return run_passes(r, buffer, words, pool, ALL_PAGES, count);
+    }
     run_served(r, buffer, words, scenario, count)
 }
 
@@ -255,7 +362,7 @@ fn build(r: Registers, buffer: &mut [u64], words: &mut [u32]) {
     store::table_store(r, buffer, words, 5, NUMBER_1);
     store::table_store(r, buffer, words, DIRECTORY, NUMBER_1);
     let mut page: u32 = 0;
-    while page < 80 {
+    while page < PAGES {
         store::table_store(r, buffer, words, TABLE + page, FIRST_LEAF + page);
         page += 1;
     }

@@ -5,6 +5,7 @@ ghost use Prim.Native.Nat.{_*_, _≤_};
 ghost use lib.ListN.{length};
 ghost use Rattle.probe.specs.Lengths.{SLOTS, WORDS};
 use access::Physical;
+use collector::Collected;
 use heap::Mapped;
 use heap::Pool;
 use heap::PoolReply;
@@ -67,7 +68,7 @@ const END: usize = WORDS + 1;
 // The least kind of a call on a pool, and the highest kind of all.
 const POOL_KIND: u32 = 9;
 
-const LAST_KIND: u32 = 13;
+const LAST_KIND: u32 = 14;
 
 fn answered(first: u32, second: u32, third: u32, fourth: u32, registers: Registers) -> Answer {
     Answer {
@@ -120,6 +121,14 @@ fn map_answer(mapped: Mapped) -> PoolAnswer {
     let pool = mapped.pool;
     let mut answer = reply_answer(reply);
     answer.fourth = mapped.pfn;
+    with_pool(answer, pool)
+}
+
+fn collect_answer(collected: Collected) -> PoolAnswer {
+    let reply = collected.reply;
+    let pool = collected.pool;
+    let mut answer = reply_answer(reply);
+    answer.fourth = collected.given;
     with_pool(answer, pool)
 }
 
@@ -236,7 +245,10 @@ fn pool_call(q: Request, pool: Pool, buffer: &mut [u64], tables: &mut [u32]) -> 
     if q.kind == 12 {
         return with_pool(outcome_answer(heap::held(pool), r), pool);
     }
-    map_answer(heap::map(r, buffer, tables, pool, q.first, q.second))
+    if q.kind == 13 {
+        return map_answer(heap::map(r, buffer, tables, pool, q.first, q.second));
+    }
+    collect_answer(collector::collect(r, buffer, tables, pool, q.first))
 }
 
 // Fills the run from standard input, by way of the bytes; false where the input ends before.

@@ -4,10 +4,10 @@ use Rattle.pace.proofs.held_pool.Statement.{statement}
 use Rattle.pace.proofs.held_pool.Tie as tie
 
 abbrev Inv-loop : tie.InvT-loop
-Inv-loop pool₀ i₀ pool i = Unit {0}
+Inv-loop first held pool₀ i₀ pool i = Unit {0}
 
 abbrev μ-loop : tie.MeasureT-loop
-μ-loop pool₀ i₀ pool i = 3000 - i
+μ-loop first held pool₀ i₀ pool i = held - i
 
 new-pool-requires : tie.Need-new-pool-requires Inv-loop μ-loop
 new-pool-requires c κs = tt

@@ -1,0 +1,3 @@
+pub mod Trees
+pub mod Refusals
+pub mod Passes
