@@ -14,7 +14,7 @@ use Rattle.slots.specs.Start.{emptyFirst, startBuffer}
 use Rattle.store.specs.Rewrite.{Put}
 use Rattle.heap.specs.Bits.{heldAt}
 use Rattle.heap.specs.Pools.{framesFit, poolFits}
-use Rattle.heap.specs.Histories.{times}
+use Rattle.heap.specs.Sequences.{times}
 use Rattle.trees.specs.Trees.{treeFits}
 use Rattle.collector.specs.Visits.{passLeaves}
 use Rattle.collector.specs.Frames.{pfnsOf, mappedTwice, mappedUnheld, mappedRight}
