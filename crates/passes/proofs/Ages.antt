@@ -1,11 +1,12 @@
 -- A leaf's word after one visit, and after two. Assumes nothing.
-use Prim.Native.Nat.{ℕ, _+_, _-_, _*_, _/_, _%_, _^_}
+use Prim.Native.Nat.{ℕ, _+_, _-_, _*_, _/_, _%_, _^_, _≤_, _<_}
 use mathlib.Core.Path.{_≡_, refl}
-use mathlib.Core.Bool.{Bool, true, false, cond}
+use mathlib.Core.Bool.{Bool, true, false, cond, _&&_}
+use lib.Dec.{leb, ltb}
 use native.Mathlib.Omega.{arith}
-use borrow.Author.Tests.{eqb-true}
+use borrow.Author.Tests.{eqb-true, leb-true, ltb-true, le-leb, lt-ltb}
 use Rattle.runs.specs.Bits.{flag, bit, withFlag}
-use Rattle.runs.proofs.Bools.{both}
+use Rattle.runs.proofs.Bools.{both, and-both}
 use Rattle.runs.proofs.Flags.{with-same, with-other}
 use Rattle.page_table.specs.Words.{present, leafValid, leafPfn}
 use Rattle.collector.specs.Visits.{inPool, isVisited, aged}
@@ -55,3 +56,22 @@ again first size w h = go (leafValid w)
 pub old-gone : (w : ℕ) → leafValid w ≡ false → present (aged w) ≡ false
 unfolding aged
 old-gone w h = rw h (old-present w)
+
+pub young-word : (w : ℕ) → leafValid w ≡ true → aged w ≡ withFlag false 30 w
+unfolding aged
+young-word w h = rw h
+
+pub old-word : (w : ℕ) → leafValid w ≡ false → aged w ≡ withFlag false 31 w
+unfolding aged
+old-word w h = rw h
+
+-- a pfn in the pool
+pub in-pool : (first size pfn : ℕ) → first ≤ pfn → pfn < first + size → inPool first size pfn ≡ true
+unfolding inPool
+in-pool first size pfn low high = and-both (le-leb first pfn low) (lt-ltb pfn (first + size) high)
+
+pub pool-in : (first size pfn : ℕ) → inPool first size pfn ≡ true → (first ≤ pfn) × (pfn < first + size)
+unfolding inPool
+pool-in first size pfn h =
+    let parts = both (leb first pfn) (ltb pfn (first + size)) h in
+    (leb-true first pfn (parts .0), ltb-true pfn (first + size) (parts .1))

@@ -26,6 +26,7 @@ use Rattle.collector.proofs.CheckLaws.{pfns-append}
 use Rattle.collector.proofs.FrameLaws.{all-within}
 use Rattle.passes.specs.Pages.{pageLeaf, pageLeaves, VisitsPages}
 use Rattle.passes.specs.Frames.{FrameGoesBack}
+use Rattle.passes.proofs.Ages.{in-pool}
 use Rattle.passes.proofs.PageLaws.{visits-pages}
 use Rattle.passes.proofs.Repeat.{keptOf, given-append, kept-append, aged-pfn, parts}
 use Rattle.passes.proofs.Repeated.{sound, all-fit, pass-account}
@@ -91,7 +92,7 @@ module _ (words : List ℕ) (first size id vpn : ℕ) (f : Found) (page : vpn < 
       ∙ ap (λ (n : ℕ). bit (eqb n pfn) + 0) (aged-pfn (f .word) young) ∙ ap (λ (n : ℕ). n + 0) own-times in
       omega arith
 
-bit-true : (b : Bool) → 1 ≤ bit b → b ≡ true
+pub bit-true : (b : Bool) → 1 ≤ bit b → b ≡ true
 bit-true true l = refl
 bit-true false l = absurd (omega arith)
 
@@ -106,9 +107,12 @@ frame-of {p} {q} {given} a pfn = sym (zero-add (bit (holds p pfn))) ∙ a .frame
 
 pub frame-goes-back : FrameGoesBack
 unfolding FrameGoesBack
-frame-goes-back m p id answer buffer-after words-after whole pass vpn f page found chosen =
+frame-goes-back m p id answer buffer-after words-after whole pass vpn f page found low high =
     by-valid (leafValid (f .word)) refl
   where
+    chosen : inPool (p .first) (p .size) (leafPfn (f .word)) ≡ true
+    chosen = in-pool (p .first) (p .size) (leafPfn (f .word)) low high
+
     within : times (leafPfn (f .word)) (pfnsOf (passLeaves (m .words) (p .first) (p .size) id)) ≤ bit (holds p (leafPfn (f .word)))
     within =
         all-within p (sound m p id answer buffer-after words-after whole pass) (pfnsOf (passLeaves (m .words) (p .first) (p .size) id))

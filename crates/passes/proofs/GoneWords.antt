@@ -18,7 +18,7 @@ use Rattle.trees.proofs.Apart.{Apart, apart-told, fits-apart}
 use Rattle.collector.specs.Visits.{inPool, isVisited, aged, passWords}
 use Rattle.collector.proofs.Passes.{pass-length, pass-root, pass-word, pass-leaf}
 use Rattle.passes.specs.Gone.{Gone, GoneIn}
-use Rattle.passes.proofs.Ages.{again, old-gone}
+use Rattle.passes.proofs.Ages.{again, old-gone, young-word, old-word}
 
 -- where the three words of a page stand in a run: its root's, its directory's and its leaf's
 module _ (words : List ℕ) (id vpn : ℕ) where
@@ -87,7 +87,8 @@ pub gone-words : (words : List ℕ) (first size id : ℕ) → id < 64 → treeFi
     → GoneIn (passWords words first size id) (passWords (passWords words first size id) first size id) id vpn f
 unfolding leafIndex isVisited
 gone-words words first size id known fits fits-after vpn f page found chosen = record {
-  aged-once = once;
+  valid-cleared = λ young. once ∙ young-word (f .word) young;
+  present-cleared = λ old. once ∙ old-word (f .word) old;
   gone-at-once = λ old.
       gone-there (passWords words first size id) id vpn f led-after (place ∙ sym moved) (ap present once ∙ old-gone (f .word) old);
   gone-later =

@@ -11,3 +11,6 @@ pub mod StoresMade
 pub mod Backs
 pub mod Balance
 pub mod PastLaws
+pub mod Counted
+pub mod Untouched
+pub mod Exactly

@@ -87,7 +87,7 @@ words-length : (words : List ℕ) (first size id : ℕ) → tablesFit (passWords
 unfolding tablesFit passWords
 words-length words first size id = ap lengthFits (written-length (agedPuts (passLeaves words first size id)) words)
 
-may-by : (words : List ℕ) (p : Pool) (id : ℕ) → treeFits words id ≡ true
+pub may-by : (words : List ℕ) (p : Pool) (id : ℕ) → treeFits words id ≡ true
     → mappedRight p (pfnsOf (passLeaves words (p .first) (p .size) id)) ≡ true → mayCollect words p id ≡ true
 unfolding mayCollect
 may-by words p id a b = and-both a b

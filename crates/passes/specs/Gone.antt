@@ -1,9 +1,10 @@
 -- A leaf that a pass visits is gone within two passes.
-use Prim.Native.Nat.{ℕ, _<_}
+use Prim.Native.Nat.{ℕ, _+_, _≤_, _<_}
 use mathlib.Core.Path.{_≡_}
 use mathlib.Core.Bool.{true, false}
 use mathlib.Core.List.{List}
 use lib.ListN.{getD}
+use Rattle.runs.specs.Bits.{withFlag}
 use Rattle.entry.specs.Address.{PAGES}
 use Rattle.page_table.specs.Words.{present, leafValid, leafPfn}
 use Rattle.page_table.specs.Walk.{walkTree, stopAt}
@@ -12,7 +13,6 @@ use Rattle.page_table.specs.declared.Walk.the-variants.{Leaf, Absent}
 use Rattle.slots.specs.Buffer.{Buffer}
 use Rattle.store.specs.Machine.{Machine}
 use Rattle.heap.specs.declared.Pool.{Pool}
-use Rattle.collector.specs.Visits.{inPool, aged}
 use Rattle.collector.specs.Collect.{collectRefusal, CollectGives}
 use Rattle.collector.specs.declared.Collected.{Collected}
 
@@ -28,8 +28,9 @@ pub record Gone (words : List ℕ) (id vpn : ℕ) (f : Found) : Type 0 where
 
 -- what two passes make of a page's leaf: `after` the first and `later`, after the second
 pub record GoneIn (after later : List ℕ) (id vpn : ℕ) (f : Found) : Type 0 where
-  -- "valid 1 becomes 0, valid 0 loses its present bit"
-  pub aged-once : getD after (f .index) 0 ≡ aged (f .word)
+  -- "valid 1 becomes 0, valid 0 loses its present bit": that bit alone
+  pub valid-cleared : leafValid (f .word) ≡ true → getD after (f .index) 0 ≡ withFlag false 30 (f .word)
+  pub present-cleared : leafValid (f .word) ≡ false → getD after (f .index) 0 ≡ withFlag false 31 (f .word)
   pub gone-at-once : leafValid (f .word) ≡ false → Gone after id vpn f
   pub gone-later : Gone later id vpn f
 
@@ -42,5 +43,5 @@ GoneInTwoPasses =
     → next .words ≡ words₁ → q .first ≡ p .first → q .size ≡ p .size
     → Pass next q id two buffer₂ words₂
     → (vpn : ℕ) (f : Found) → vpn < PAGES → walkTree (m .words) vpn false id ≡ Leaf f
-    → inPool (p .first) (p .size) (leafPfn (f .word)) ≡ true
+    → p .first ≤ leafPfn (f .word) → leafPfn (f .word) < p .first + p .size
     → GoneIn words₁ words₂ id vpn f

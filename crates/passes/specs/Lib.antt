@@ -1,5 +1,7 @@
 pub mod Pages
 pub mod Gone
+pub mod Only
+pub mod Accepted
 pub mod Again
 pub mod Others
 pub mod AsStores
