@@ -17,8 +17,8 @@ use Rattle.reach.proofs.LinkLaws.{leads-fits}
 use Rattle.store.specs.Rewrite.{Put, written}
 use Rattle.store.proofs.Scans.{Every, Elsewhere, elsewhere-both, written-append, written-length, written-other, scan-elsewhere, scan-at}
 use Rattle.store.proofs.Scans.{scan-same}
-use Rattle.collector.specs.Visits.{isVisited, aged, tableLeaves, treeLeaves, passLeaves, agedPuts, passWords}
-use Rattle.collector.proofs.Puts.{tablePuts, treePuts, aged-tree}
+use Rattle.collector.specs.Visits.{isVisited, aged, tableLeaves, treeLeaves, passLeaves, agedPuts}
+use Rattle.collector.proofs.Puts.{tablePuts, treePuts, aged-tree, passWords}
 use Rattle.trees.proofs.Apart.{Apart}
 
 -- an index in no word of a table

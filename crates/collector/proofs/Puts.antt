@@ -7,9 +7,9 @@ use lib.ListN.{length, getD}
 use Rattle.page_table.specs.Words.{number}
 use Rattle.page_table.specs.Stretches.{directoryWord}
 use Rattle.page_table.specs.Reads.{leadsOn}
-use Rattle.store.specs.Rewrite.{Put}
+use Rattle.store.specs.Rewrite.{Put, written}
 use Rattle.store.specs.Scan.{putAt, putsFrom}
-use Rattle.collector.specs.Visits.{isVisited, aged, tableLeaves, treeLeaves, agedPuts}
+use Rattle.collector.specs.Visits.{isVisited, aged, tableLeaves, treeLeaves, passLeaves, agedPuts}
 
 -- the stores in one table
 unfoldable pub tablePuts : (words : List ℕ) (first size t : ℕ) → List Put
@@ -56,3 +56,7 @@ aged-tree words first size d (suc n) =
         ≡ cond b (tablePuts words first size (number (directoryWord words d n))) []
     go true = aged-table words first size (number (directoryWord words d n))
     go false = refl
+
+-- the words after a pass's stores
+unfoldable pub passWords : (words : List ℕ) (first size id : ℕ) → List ℕ
+passWords words first size id = written (agedPuts (passLeaves words first size id)) words

@@ -28,7 +28,7 @@ visitedBy m p id = passLeaves (m .words) (p .first) (p .size) id
 unfoldable pub storesOf : Machine → Pool → (id : ℕ) → List Put
 storesOf m p id = agedPuts (visitedBy m p id)
 
--- number 12: the tree does not stand by itself, or a frame of the pool is mapped twice, or while it is not held
+-- none of number 12's grounds holds: the tree stands by itself, and a frame of the pool is mapped once at most, and only while it is held
 unfoldable pub mayCollect : (words : List ℕ) → Pool → (id : ℕ) → Bool
 mayCollect words p id = treeFits words id && mappedRight p (pfnsOf (passLeaves words (p .first) (p .size) id))
 

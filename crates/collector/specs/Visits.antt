@@ -8,7 +8,7 @@ use Rattle.runs.specs.Bits.{withFlag}
 use Rattle.page_table.specs.Words.{present, number, leafValid, leafPfn}
 use Rattle.page_table.specs.Stretches.{directoryWord}
 use Rattle.page_table.specs.Reads.{leadsOn}
-use Rattle.store.specs.Rewrite.{Put, written}
+use Rattle.store.specs.Rewrite.{Put}
 use Rattle.store.specs.Scan.{putAt, putsFrom}
 
 -- "whose pfn is in the pool": a first pfn and a size
@@ -19,7 +19,7 @@ inPool first size pfn = leb first pfn && ltb pfn (first + size)
 unfoldable pub isVisited : (first size w : ℕ) → Bool
 isVisited first size w = present w && inPool first size (leafPfn w)
 
--- "valid 1 becomes 0, valid 0 loses its present bit"
+-- a word one step older: "valid 1 becomes 0, valid 0 loses its present bit"
 unfoldable pub aged : (w : ℕ) → ℕ
 aged w = cond (leafValid w) (withFlag false 30 w) (withFlag false 31 w)
 
@@ -43,7 +43,3 @@ passLeaves words first size id =
 unfoldable pub agedPuts : List Put → List Put
 agedPuts [] = []
 agedPuts (q ∷ qs) = putAt (q .index) (aged (q .value)) ∷ agedPuts qs
-
--- the words after a pass's stores
-unfoldable pub passWords : (words : List ℕ) (first size id : ℕ) → List ℕ
-passWords words first size id = written (agedPuts (passLeaves words first size id)) words

@@ -1,5 +1,5 @@
-// The reference collector: a pass over the tree of one identification ages the leaves whose frames are in a pool, and gives back the
-// frames of those that were not used since the last pass.
+// The reference collector: a pass over the tree of one identification visits the leaves whose frames are in a pool. A valid one is made not
+// valid; one that it finds not valid is taken away, and its frame is given back.
 mod aging;
 mod frames;
 mod leaves;

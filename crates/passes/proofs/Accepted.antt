@@ -8,7 +8,8 @@ use Rattle.store.specs.Machine.{Machine}
 use Rattle.store.specs.Rewrite.{Put}
 use Rattle.store.specs.Stores.{afterStores, emptiedIn}
 use Rattle.heap.specs.declared.Pool.{Pool}
-use Rattle.collector.specs.Visits.{passLeaves, agedPuts, passWords}
+use Rattle.collector.specs.Visits.{passLeaves, agedPuts}
+use Rattle.collector.proofs.Puts.{passWords}
 use Rattle.collector.specs.Turns.{State, atFirst, turns}
 use Rattle.collector.specs.Collect.{visitedBy, storesOf, wordsAfterCollect}
 use Rattle.collector.specs.declared.Collected.{Collected}

@@ -25,7 +25,7 @@ use Rattle.heap.specs.declared.Pool.{Pool}
 use Rattle.heap.proofs.Marks.{Sound}
 use Rattle.heap.proofs.Accounts.{times-append}
 use Rattle.trees.specs.Trees.{treeFits}
-use Rattle.trees.specs.Fitting.{Passes, FitsMeans}
+use Rattle.trees.specs.Fitting.{TreeRight, FitsMeans}
 use Rattle.trees.proofs.FitLaws.{fits-means}
 use Rattle.collector.specs.Visits.{inPool, passLeaves}
 use Rattle.collector.specs.Frames.{pfnsOf, mappedRight, allGiven}
@@ -37,7 +37,7 @@ use Rattle.collector.proofs.FrameLaws.{Within, all-within, within-all}
 use Rattle.collector.proofs.Visited.{pass-frames}
 use Rattle.collector.proofs.CollectLaws.{Grounds, collect-grounds}
 use Rattle.passes.specs.Pages.{pageLeaf, pageLeaves, VisitsPages}
-use Rattle.passes.specs.Accepted.{FramesRight, AcceptedExactly, AboveRefused}
+use Rattle.passes.specs.Accepted.{FramesRight, AcceptedExactly, RefusedInOrder}
 use Rattle.passes.proofs.Ages.{in-pool, pool-in}
 use Rattle.passes.proofs.PageLaws.{visits-pages}
 use Rattle.passes.proofs.Repeated.{may-by, checks-pass}
@@ -231,7 +231,12 @@ accepted-exactly m p id whole pool registers buffer tables known = (
     either true e = inl (rw (pool, registers, buffer, tables, le-leb id 62 known, e))
     either false e = inr (rw (pool, registers, buffer, tables, le-leb id 62 known, e))
 
-pub above-refused : AboveRefused
-unfolding AboveRefused collectRefusal refuseUnless
-above-refused m p id pool registers buffer tables above =
-    rw (pool, registers, buffer, tables, is-false (leb id 62) (λ h. let l = leb-true id 62 h in omega arith))
+pub refused-in-order : RefusedInOrder
+unfolding RefusedInOrder collectRefusal refuseUnless
+refused-in-order m p id = record {
+  pool-1 = λ a. rw a;
+  registers-1 = λ a b. rw (a, b);
+  buffer-2 = λ a b c. rw (a, b, c);
+  tables-3 = λ a b c d. rw (a, b, c, d);
+  above-5 = λ a b c d above. rw (a, b, c, d, is-false (leb id 62) (λ h. let l = leb-true id 62 h in omega arith));
+}

@@ -16,7 +16,8 @@ use Rattle.page_table.specs.Reads.{leadsOn}
 use Rattle.reach.specs.Reach.{leadsTo}
 use Rattle.store.specs.Rewrite.{written}
 use Rattle.trees.specs.Trees.{namesTable, alsoNamed, hasBroken, namesTwice, overlaps, sharesTable, meets, meetsRoot, met, apart, treeFits}
-use Rattle.collector.specs.Visits.{passLeaves, agedPuts, passWords}
+use Rattle.collector.specs.Visits.{passLeaves, agedPuts}
+use Rattle.collector.proofs.Puts.{passWords}
 use Rattle.trees.proofs.Apart.{Apart, apart-told, apart-alone, fits-apart}
 use Rattle.passes.proofs.OtherRoots.{other-word}
 use Rattle.collector.proofs.Passes.{pass-length, pass-root, pass-word}

@@ -15,7 +15,8 @@ use Rattle.page_table.specs.declared.Walk.the-variants.{Leaf}
 use Rattle.page_table.proofs.Ways.{Way, way-of, way-absent}
 use Rattle.trees.specs.Trees.{treeFits}
 use Rattle.trees.proofs.Apart.{Apart, apart-told, fits-apart}
-use Rattle.collector.specs.Visits.{inPool, isVisited, aged, passWords}
+use Rattle.collector.specs.Visits.{inPool, isVisited, aged}
+use Rattle.collector.proofs.Puts.{passWords}
 use Rattle.collector.proofs.Passes.{pass-length, pass-root, pass-word, pass-leaf}
 use Rattle.passes.specs.Gone.{Gone, GoneIn}
 use Rattle.passes.proofs.Ages.{again, old-gone, young-word, old-word}

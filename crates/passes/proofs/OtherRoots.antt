@@ -15,10 +15,10 @@ use Rattle.page_table.proofs.Local.{descend-local}
 use Rattle.store.specs.Rewrite.{written}
 use Rattle.store.proofs.Scans.{written-other}
 use Rattle.trees.specs.Trees.{treeFits}
-use Rattle.trees.specs.Fitting.{LiesBelow, Reaches, Stands, Passes, FitsMeans}
+use Rattle.trees.specs.Fitting.{LiesBelow, Reaches, Stands, TreeRight, FitsMeans}
 use Rattle.trees.proofs.FitLaws.{fits-means}
-use Rattle.collector.specs.Visits.{passLeaves, agedPuts, passWords}
-use Rattle.collector.proofs.Puts.{treePuts}
+use Rattle.collector.specs.Visits.{passLeaves, agedPuts}
+use Rattle.collector.proofs.Puts.{treePuts, passWords}
 use Rattle.collector.proofs.Passes.{tree-elsewhere, pass-is, pass-length, pass-root}
 use Rattle.passes.specs.Others.{OthersStay}
 use Rattle.passes.proofs.Accepted.{grounds, words-now}
@@ -26,7 +26,7 @@ use Rattle.passes.proofs.Accepted.{grounds, words-now}
 -- a tree that passes number 12 and has a directory
 pub stands : (words : List ℕ) (id : ℕ) → leadsOn (length words) 1 (getD words id 0) ≡ true → treeFits words id ≡ true
     → Stands words id (number (getD words id 0))
-unfolding FitsMeans Passes leadsOn
+unfolding FitsMeans TreeRight leadsOn
 stands words id leads fits =
     ⊎-elim (λ absent. absurd (clash (both (present (getD words id 0)) _ leads .0) absent)) (λ s. s) (fits-means words id .0 fits)
 

@@ -16,7 +16,8 @@ use Rattle.heap.specs.declared.Pool.{Pool}
 use Rattle.heap.proofs.Marks.{Sound}
 use Rattle.store.specs.Scan.{putAt, putsFrom}
 use Rattle.page_table.specs.Stretches.{directoryWord}
-use Rattle.collector.specs.Visits.{inPool, isVisited, aged, tableLeaves, treeLeaves, passLeaves, passWords}
+use Rattle.collector.specs.Visits.{inPool, isVisited, aged, tableLeaves, treeLeaves, passLeaves}
+use Rattle.collector.proofs.Puts.{passWords}
 use Rattle.collector.specs.Frames.{pfnsOf, givenOf, allGiven, poolAfterGives}
 use Rattle.trees.proofs.Apart.{Apart}
 use Rattle.collector.proofs.Passes.{pass-length, pass-root, pass-word, pass-leaf}

@@ -24,7 +24,8 @@ use Rattle.heap.proofs.Marks.{Sound}
 use Rattle.heap.proofs.Accounts.{Account}
 use Rattle.trees.specs.Trees.{treeFits}
 use Rattle.trees.proofs.Apart.{apart-told, fits-apart}
-use Rattle.collector.specs.Visits.{passLeaves, agedPuts, passWords}
+use Rattle.collector.proofs.Puts.{passWords}
+use Rattle.collector.specs.Visits.{passLeaves, agedPuts}
 use Rattle.collector.specs.Frames.{pfnsOf, givenOf, mappedRight, allGiven, poolAfterGives}
 use Rattle.collector.specs.Collect.{visitedBy, mayCollect, collectRefusal, collectAnswer}
 use Rattle.collector.specs.declared.Collected.{Collected}

@@ -1,24 +1,28 @@
 -- An accepted pass ends as the table stores that it stands for. Assumes nothing.
 use Prim.Native.Nat.{ℕ, _+_, _<_}
 use mathlib.Core.Path.{_≡_, refl, sym, ap, ap₂, _∙_, subst}
+use mathlib.Core.Bool.{true}
 use mathlib.Core.List.{List, [], _∷_}
 use lib.ListN.{length}
 use Rattle.registers.specs.Replies.{done}
 use Rattle.registers.specs.declared.Outcome.the-variants.{Done}
 use Rattle.registers.specs.declared.Reply.{Reply}
 use Rattle.registers.proofs.RefusalLaws.{when-accepted}
+use Rattle.slots.specs.Buffer.{Buffer}
 use Rattle.store.specs.Machine.{Machine}
 use Rattle.store.specs.Rewrite.{Put}
-use Rattle.store.specs.TableStore.{TableStoreGives}
+use Rattle.store.specs.Sweep.{keptAt}
+use Rattle.store.specs.TableStore.{storeReply, bufferAfterStore, wordsAfterStore, TableStoreGives}
+use Rattle.store.proofs.StoreLaws.{store-gives}
 use Rattle.store.specs.Stores.{doneOf, afterStore, afterStores, emptiedIn}
 use Rattle.store.proofs.Scans.{Every}
-use Rattle.store.proofs.Storing.{Ready, put-accepted, put-length, ready-after, registers-stay}
+use Rattle.store.proofs.Storing.{Ready, put-accepted, put-backed, put-length, ready-after, registers-stay}
 use Rattle.collector.specs.Visits.{passLeaves, agedPuts}
 use Rattle.collector.specs.Frames.{givenOf, poolAfterGives}
 use Rattle.collector.specs.Collect.{visitedBy, storesOf, collectAnswer, bufferAfterCollect, wordsAfterCollect}
 use Rattle.collector.specs.declared.Collected.{Collected}
 use Rattle.collector.proofs.Visited.{pass-inside}
-use Rattle.passes.specs.AsStores.{Stored, leftBy, StoresMade, lastLeft, NoneRefused, emptiedBy, PassAsStores}
+use Rattle.passes.specs.AsStores.{Stored, leftBy, StoresMade, lastLeft, NoneRefused, emptiedBy, PassAsStores, StoresCanBeMade, NoneStale}
 use Rattle.passes.proofs.Accepted.{grounds}
 
 -- a store leaves what its definition says
@@ -99,3 +103,36 @@ pass-as-stores m p id answer buffer-after words-after stored pass made = record 
       pool = poolAfterGives p (givenOf (passLeaves (m .words) (p .first) (p .size) id));
     }
     answer-now = pass .made .answer-is ∙ sym (when-accepted _ 0 (sym (pass .accepted)) _ _ _ refl refl)
+
+pub stores-can-be-made : StoresCanBeMade
+unfolding StoresCanBeMade StoresMade
+stores-can-be-made m [] = ([], tt)
+stores-can-be-made m (q ∷ qs) =
+    let s : Stored = record { reply = storeReply m q; buffer = bufferAfterStore m q; words = wordsAfterStore m q } in
+    let rest = stores-can-be-made (leftBy s) qs in
+    (s ∷ rest .0, (store-gives m q (storeReply m q) (bufferAfterStore m q) (wordsAfterStore m q) refl refl refl, rest .1))
+
+-- after a store into a machine that fits every slot is backed, and so after the last of several
+last-backed : (m : Machine) → Ready m → (q : Put) (qs : List Put) → Every (λ x. x .index < length (m .words)) (q ∷ qs)
+    → (slot : ℕ) → slot < 64 → keptAt ((afterStores m (q ∷ qs)) .words) ((afterStores m (q ∷ qs)) .buffer) slot ≡ true
+unfolding afterStores Every
+last-backed m ready q [] inside slot l = put-backed m ready q (inside .0) slot l
+last-backed m ready q (r ∷ rs) inside slot l =
+    last-backed (afterStore m q) (ready-after m ready q (inside .0)) r rs
+    (subst (λ (n : ℕ). Every (λ x. x .index < n) (r ∷ rs)) (sym (put-length m ready q (inside .0))) (inside .1)) slot l
+
+some-backed : (m : Machine) → Ready m → (qs : List Put) → Every (λ x. x .index < length (m .words)) qs → (qs ≡ [] → ⊥)
+    → (slot : ℕ) → slot < 64 → keptAt ((afterStores m qs) .words) ((afterStores m qs) .buffer) slot ≡ true
+some-backed m ready [] inside some slot l = absurd (some refl)
+some-backed m ready (q ∷ qs) inside some slot l = last-backed m ready q qs inside slot l
+
+pub none-stale : NoneStale
+unfolding NoneStale storesOf visitedBy bufferAfterCollect wordsAfterCollect
+none-stale m p id answer buffer-after words-after pass some slot l =
+    ap₂ (λ (ws : List ℕ) (b : Buffer). keptAt ws b slot)
+    (pass .made .words-are ∙ sym (when-accepted _ 0 (sym (pass .accepted)) _ _ _ refl refl))
+    (pass .made .buffer-is ∙ sym (when-accepted _ 0 (sym (pass .accepted)) _ _ _ refl refl))
+    ∙ some-backed m (grounds m p id answer buffer-after words-after pass .ready)
+    (agedPuts (passLeaves (m .words) (p .first) (p .size) id))
+    (aged-inside (length (m .words)) (passLeaves (m .words) (p .first) (p .size) id) (pass-inside (m .words) (p .first) (p .size) id))
+    some slot l

@@ -5,7 +5,7 @@ use mathlib.Core.Bool.{true}
 use mathlib.Core.List.{List}
 use native.Mathlib.Omega.{arith}
 use Rattle.trees.specs.Trees.{treeFits}
-use Rattle.collector.specs.Visits.{passWords}
+use Rattle.collector.proofs.Puts.{passWords}
 use Rattle.passes.specs.Gone.{GoneIn, GoneInTwoPasses}
 use Rattle.passes.proofs.Accepted.{grounds, words-now}
 use Rattle.page_table.specs.Words.{leafPfn}
@@ -27,7 +27,7 @@ gone-in-two-passes m next p q id one two buffer₁ buffer₂ words₁ words₂ f
     ∙ ap (λ (ws : List ℕ). passWords ws (q .first) (q .size) id) (same ∙ w₁)
     ∙ ap₂ (λ (a b : ℕ). passWords (passWords (m .words) (p .first) (p .size) id) a b id) first-same size-same in
     let gone = gone-words (m .words) (p .first) (p .size) id (omega arith) (g .tree-fits) fits vpn f page found
-        (in-pool (p .first) (p .size) (leafPfn (f .word)) low high) in
+    (in-pool (p .first) (p .size) (leafPfn (f .word)) low high) in
     subst (λ (ws : List ℕ). GoneIn words₁ ws id vpn f) (sym w₂)
     (subst (λ (ws : List ℕ). GoneIn ws (passWords (passWords (m .words) (p .first) (p .size) id) (p .first) (p .size) id) id vpn f)
     (sym w₁) gone)

@@ -15,8 +15,8 @@ use Rattle.store.specs.Rewrite.{Put}
 use Rattle.store.specs.Scan.{putAt}
 use Rattle.store.proofs.Scans.{Every, Elsewhere, elsewhere-both, written-other}
 use Rattle.heap.specs.declared.Pool.{Pool}
-use Rattle.collector.specs.Visits.{inPool, aged, agedPuts, passLeaves, passWords}
-use Rattle.collector.proofs.Puts.{aged-append}
+use Rattle.collector.specs.Visits.{inPool, aged, agedPuts, passLeaves}
+use Rattle.collector.proofs.Puts.{aged-append, passWords}
 use Rattle.passes.specs.Pages.{pageLeaf, pageLeaves, VisitsPages}
 use Rattle.passes.specs.Only.{IsVisited, OnlyVisitedChange}
 use Rattle.passes.proofs.Ages.{pool-in}

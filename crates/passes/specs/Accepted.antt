@@ -16,7 +16,7 @@ use Rattle.slots.specs.Buffer.{bufferFits}
 use Rattle.store.specs.Machine.{Machine}
 use Rattle.heap.specs.Pools.{poolFits, holds}
 use Rattle.heap.specs.declared.Pool.{Pool}
-use Rattle.trees.specs.Fitting.{Passes}
+use Rattle.trees.specs.Fitting.{TreeRight}
 use Rattle.collector.specs.Collect.{collectRefusal}
 
 -- number 12, as far as it speaks of frames; each part denies the words that stand over it
@@ -34,12 +34,20 @@ unfoldable pub AcceptedExactly : Type 0
 AcceptedExactly =
     (m : Machine) (p : Pool) (id : ℕ) → length (p .bits) ≡ 64 → poolFits p ≡ true → registersFit (m .registers) ≡ true
     → bufferFits (m .buffer) ≡ true → tablesFit (m .words) ≡ true → id ≤ 62
-    → (collectRefusal m p id ≡ 0 → Passes (m .words) id × FramesRight (m .words) p id)
-    × (Passes (m .words) id → FramesRight (m .words) p id → collectRefusal m p id ≡ 0)
+    → (collectRefusal m p id ≡ 0 → TreeRight (m .words) id × FramesRight (m .words) p id)
+    × (TreeRight (m .words) id → FramesRight (m .words) p id → collectRefusal m p id ≡ 0)
     × ((collectRefusal m p id ≡ 0) ⊎ (collectRefusal m p id ≡ 12))
 
--- "number 5 for an identification above 62"
-unfoldable pub AboveRefused : Type 0
-AboveRefused =
-    (m : Machine) (p : Pool) (id : ℕ) → poolFits p ≡ true → registersFit (m .registers) ≡ true
-    → bufferFits (m .buffer) ≡ true → tablesFit (m .words) ≡ true → 62 < id → collectRefusal m p id ≡ 5
+-- the numbers before 12, in their order: each where those before it pass
+pub record RefusedBefore (m : Machine) (p : Pool) (id : ℕ) : Type 0 where
+  pub pool-1 : poolFits p ≡ false → collectRefusal m p id ≡ 1
+  pub registers-1 : poolFits p ≡ true → registersFit (m .registers) ≡ false → collectRefusal m p id ≡ 1
+  pub buffer-2 : poolFits p ≡ true → registersFit (m .registers) ≡ true → bufferFits (m .buffer) ≡ false → collectRefusal m p id ≡ 2
+  pub tables-3 : poolFits p ≡ true → registersFit (m .registers) ≡ true → bufferFits (m .buffer) ≡ true → tablesFit (m .words) ≡ false
+      → collectRefusal m p id ≡ 3
+  -- "number 5 for an identification above 62"
+  pub above-5 : poolFits p ≡ true → registersFit (m .registers) ≡ true → bufferFits (m .buffer) ≡ true → tablesFit (m .words) ≡ true
+      → 62 < id → collectRefusal m p id ≡ 5
+
+unfoldable pub RefusedInOrder : Type 0
+RefusedInOrder = (m : Machine) (p : Pool) (id : ℕ) → RefusedBefore m p id

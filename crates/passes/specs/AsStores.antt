@@ -1,6 +1,7 @@
 -- "The end state is that of the same guarded stores made one after another in that order", by the promise of table_store itself.
-use Prim.Native.Nat.{ℕ, _+_}
+use Prim.Native.Nat.{ℕ, _+_, _<_}
 use mathlib.Core.Path.{_≡_}
+use mathlib.Core.Bool.{true}
 use mathlib.Core.List.{List, [], _∷_}
 use Rattle.registers.specs.Replies.{refusalOf}
 use Rattle.registers.specs.declared.Outcome.the-variants.{Done}
@@ -8,6 +9,7 @@ use Rattle.registers.specs.declared.Reply.{Reply}
 use Rattle.slots.specs.Buffer.{Buffer}
 use Rattle.store.specs.Machine.{Machine}
 use Rattle.store.specs.Rewrite.{Put}
+use Rattle.store.specs.Sweep.{keptAt}
 use Rattle.store.specs.TableStore.{TableStoreGives}
 use Rattle.store.specs.Stores.{doneOf}
 use Rattle.heap.specs.declared.Pool.{Pool}
@@ -58,3 +60,14 @@ PassAsStores =
     (m : Machine) (p : Pool) (id : ℕ) (answer : Collected) (buffer-after : Buffer) (words-after : List ℕ) (stored : List Stored)
     → Pass m p id answer buffer-after words-after → StoresMade m (storesOf m p id) stored
     → SameAsStores m answer buffer-after words-after stored
+
+-- whatever the stores, they can be made so: what is said of all of them is not said of none
+unfoldable pub StoresCanBeMade : Type 0
+StoresCanBeMade = (m : Machine) (puts : List Put) → (stored : List Stored) × StoresMade m puts stored
+
+-- no stale entry is left: after an accepted pass that made a store, the tables back every slot that is not empty
+unfoldable pub NoneStale : Type 0
+NoneStale =
+    (m : Machine) (p : Pool) (id : ℕ) (answer : Collected) (buffer-after : Buffer) (words-after : List ℕ)
+    → Pass m p id answer buffer-after words-after → (storesOf m p id ≡ [] → ⊥)
+    → (slot : ℕ) → slot < 64 → keptAt words-after buffer-after slot ≡ true

@@ -15,7 +15,7 @@ pub const TABLES: u32 = 3;
 // The draw is above 3.
 pub const DRAW: u32 = 4;
 
-// What is never served: an access in test mode or with context 63, and so a guarded switch above 62 too.
+// What is never served: an access in test mode or with context 63, and so a guarded switch and a pass above 62 too.
 pub const SERVICE: u32 = 5;
 
 // The word index is at or past the run's length.

@@ -16,9 +16,9 @@ use Rattle.runs.proofs.Counts.{lowest-true, lowest-lt}
 use Rattle.entry.specs.Address.{location, vpn15Of, slotOf, setOf}
 use Rattle.entry.specs.Entry.{unpack, pack, EntryFits}
 use Rattle.entry.specs.Empty.{emptyFields, emptyEntry}
-use Rattle.entry.proofs.Fields.{pack-lt, empty-fits, slot-lt}
+use Rattle.entry.proofs.Fields.{pack-lt, slot-lt}
 use Rattle.entry.proofs.RoundTrips.{unpack-pack}
-use Rattle.entry.proofs.Same.{low-same, low-self, same-self, entry-same, vpn-back}
+use Rattle.entry.proofs.Same.{low-same, low-self, entry-same, vpn-back}
 use Rattle.entry.specs.declared.Entry.{Entry}
 use Rattle.page_table.specs.Words.{leafValid, leafKernel, leafWe, leafPfn}
 use Rattle.page_table.specs.Walk.{walkPage}
@@ -36,7 +36,7 @@ use Rattle.tlb.proofs.Loads.{load-there, load-elsewhere}
 use Rattle.store.specs.Leaf.{leafEntry}
 use Rattle.store.specs.Sweep.{isEmpty, agreesWithLeaf, agreesWithTables, kept, keptAt, swept}
 use Rattle.store.proofs.KeptLaws.{leaf-fits}
-use Rattle.store.proofs.Sweeps.{swept-at}
+use Rattle.store.proofs.Sweeps.{swept-at, empty-is, empty-kept, empty-unpacked}
 use Rattle.sequence.specs.Account.{sweptEntry}
 
 pub record Inv (words : List ℕ) (b : Buffer) : Type 0 where
@@ -242,14 +242,6 @@ module _ (words : List ℕ) (b : Buffer) (inv : Inv words b) (fits : bufferFits 
 
 -- ---- a sweep
 
-empty-kept : (words : List ℕ) (slot : ℕ) → kept words slot (emptyFields (setOf slot)) ≡ true
-unfolding kept isEmpty
-empty-kept words slot = or-left _ (same-self (emptyFields (setOf slot)))
-
-empty-is : (slot : ℕ) → isEmpty slot (emptyFields (setOf slot)) ≡ true
-unfolding isEmpty
-empty-is slot = same-self (emptyFields (setOf slot))
-
 swept-kept : (words : List ℕ) (slot : ℕ) (f : Entry) → kept words slot (sweptEntry words slot f) ≡ true
 unfolding sweptEntry
 swept-kept words slot f = go (kept words slot f) refl
@@ -266,10 +258,6 @@ swept-matches words slot id vpn f l h = go (kept words slot f) h
     go : (t : Bool) → matchesPage id vpn (cond t f (emptyFields (setOf slot))) ≡ true → matchesPage id vpn f ≡ true
     go true q = q
     go false q = absurd (empty-matches slot id vpn (emptyFields (setOf slot)) l (empty-is slot) q)
-
-pub empty-unpacked : (slot : ℕ) → slot < 64 → unpack (emptyEntry (setOf slot)) ≡ emptyFields (setOf slot)
-unfolding emptyEntry setOf
-empty-unpacked slot l = unpack-pack (emptyFields (slot / 16)) (empty-fits (slot / 16) (omega arith))
 
 module _ (words : List ℕ) (b : Buffer) (fits : bufferFits b ≡ true) where
   pub swept-fields : (slot : ℕ) → slot < 64 → unpack (slotAt (swept words b) slot) ≡ sweptEntry words slot (unpack (slotAt b slot))

@@ -1,6 +1,6 @@
 -- Table stores into a machine that fits, one after another. Assumes nothing.
 use Prim.Native.Nat.{ℕ, _<_}
-use mathlib.Core.Path.{_≡_, refl, sym, ap, _∙_, subst}
+use mathlib.Core.Path.{_≡_, refl, sym, ap, ap₂, _∙_, subst}
 use mathlib.Core.Bool.{true}
 use mathlib.Core.List.{List, [], _∷_}
 use lib.ListN.{length, set, length-set}
@@ -11,13 +11,13 @@ use Rattle.registers.specs.Replies.{done}
 use Rattle.registers.specs.declared.Reply.{Reply}
 use Rattle.registers.proofs.RefusalLaws.{when-accepted}
 use Rattle.page_table.specs.Stretches.{tablesFit, lengthFits}
-use Rattle.slots.specs.Buffer.{bufferFits}
+use Rattle.slots.specs.Buffer.{Buffer, bufferFits}
 use Rattle.store.specs.Machine.{Machine}
 use Rattle.store.specs.Rewrite.{Put, written}
-use Rattle.store.specs.Sweep.{swept, emptied}
+use Rattle.store.specs.Sweep.{keptAt, swept, emptied}
 use Rattle.store.specs.TableStore.{indexFits, storeRefusal, storedWords, storeReply, bufferAfterStore, wordsAfterStore}
 use Rattle.store.specs.Stores.{doneOf, afterStore, afterStores}
-use Rattle.store.proofs.Sweeps.{swept-fits}
+use Rattle.store.proofs.Sweeps.{swept-fits, swept-backed}
 use Rattle.store.proofs.Scans.{Every}
 
 -- an accepted store's reply
@@ -63,6 +63,13 @@ module _ (m : Machine) (ready : Ready m) (q : Put) (inside : q .index < length (
   pub put-length : length ((afterStore m q) .words) ≡ length (m .words)
   unfolding afterStore
   put-length = ap length put-words ∙ length-set (m .words) (q .index) (q .value)
+
+  -- every slot is backed by the tables then, or empty
+  pub put-backed : (slot : ℕ) → slot < 64 → keptAt ((afterStore m q) .words) ((afterStore m q) .buffer) slot ≡ true
+  unfolding afterStore
+  put-backed slot l =
+      ap₂ (λ (ws : List ℕ) (b : Buffer). keptAt ws b slot) put-words put-buffer
+      ∙ swept-backed (set (m .words) (q .index) (q .value)) (m .buffer) slot (ready .buffer-fits) l
 
 -- stores inside the run: the registers stay
 pub registers-stay : (m : Machine) → Ready m → (qs : List Put) → Every (λ q. q .index < length (m .words)) qs

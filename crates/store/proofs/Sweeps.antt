@@ -6,13 +6,16 @@ use mathlib.Core.Bool.{Bool, true, false, cond}
 use mathlib.Core.List.{List}
 use native.Mathlib.Nat.{mod-eq-of-lt, not-suc-le-zero, eq-or-lt-of-le, le-of-suc-le-suc, ne-of-lt}
 use native.Mathlib.Omega.{arith}
+use Rattle.runs.proofs.Bools.{or-left}
 use Rattle.entry.specs.Address.{setOf}
 use Rattle.entry.specs.Entry.{unpack}
-use Rattle.entry.specs.Empty.{emptyEntry}
-use Rattle.entry.proofs.Fields.{empty-lt}
+use Rattle.entry.specs.Empty.{emptyFields, emptyEntry}
+use Rattle.entry.proofs.Fields.{empty-fits, empty-lt}
+use Rattle.entry.proofs.RoundTrips.{unpack-pack}
+use Rattle.entry.proofs.Same.{same-self}
 use Rattle.slots.specs.Buffer.{Buffer, bufferFits, slotAt, withSlot}
 use Rattle.slots.proofs.Slots.{at-same, at-other, fits-put}
-use Rattle.store.specs.Sweep.{kept, keptAt, settled, sweptSlot, sweptFirst, swept}
+use Rattle.store.specs.Sweep.{isEmpty, kept, keptAt, settled, sweptSlot, sweptFirst, swept}
 
 module _ (words : List ℕ) where
   one-fits : (slot : ℕ) (b : Buffer) → bufferFits (sweptSlot words slot b) ≡ bufferFits b
@@ -85,3 +88,27 @@ module _ (words : List ℕ) where
       → slotAt (swept words b) slot ≡ cond (keptAt words b slot) (slotAt b slot) (emptyEntry (setOf slot))
   unfolding swept
   swept-at b slot f l = passed 64 slot b f (omega arith) l
+
+-- an empty slot is kept
+pub empty-is : (slot : ℕ) → isEmpty slot (emptyFields (setOf slot)) ≡ true
+unfolding isEmpty
+empty-is slot = same-self (emptyFields (setOf slot))
+
+pub empty-kept : (words : List ℕ) (slot : ℕ) → kept words slot (emptyFields (setOf slot)) ≡ true
+unfolding kept
+empty-kept words slot = or-left _ (empty-is slot)
+
+pub empty-unpacked : (slot : ℕ) → slot < 64 → unpack (emptyEntry (setOf slot)) ≡ emptyFields (setOf slot)
+unfolding emptyEntry setOf
+empty-unpacked slot l = unpack-pack (emptyFields (slot / 16)) (empty-fits (slot / 16) (omega arith))
+
+-- so after a sweep every slot is
+pub swept-backed : (words : List ℕ) (b : Buffer) (slot : ℕ) → bufferFits b ≡ true → slot < 64 → keptAt words (swept words b) slot ≡ true
+unfolding keptAt
+swept-backed words b slot f l =
+    ap (λ (e : ℕ). kept words slot (unpack e)) (swept-at words b slot f l) ∙ go (kept words slot (unpack (slotAt b slot))) refl
+  where
+    go : (t : Bool) → kept words slot (unpack (slotAt b slot)) ≡ t
+        → kept words slot (unpack (cond t (slotAt b slot) (emptyEntry (setOf slot)))) ≡ true
+    go true h = h
+    go false h = ap (kept words slot) (empty-unpacked slot l) ∙ empty-kept words slot

@@ -17,7 +17,7 @@ use Rattle.page_table.specs.Reads.{leadsOn}
 use Rattle.reach.proofs.LeafLaws.{leads-sound}
 use Rattle.trees.specs.Trees.{namesTable, alsoNamed, hasBroken, namesTwice, overlaps, meets, meetsRoot, met, apart, treeFits}
 use Rattle.trees.specs.Meeting.{liesIn}
-use Rattle.trees.specs.Fitting.{LiesBelow, Reaches, Stands, Passes, FitsMeans}
+use Rattle.trees.specs.Fitting.{LiesBelow, Reaches, Stands, TreeRight, FitsMeans}
 use Rattle.trees.proofs.Apart.{apart-told, apart-alone, names-from, names-told}
 use Rattle.trees.proofs.MeetLaws.{lies-told, in-directory, in-table, meet-word, word-meet}
 
@@ -137,7 +137,7 @@ module _ (words : List ℕ) (id : ℕ) (root : leadsOn (length words) 1 (getD wo
     passes = rw (none-broken, none-twice, none-over, none-met)
 
 pub fits-means : FitsMeans
-unfolding FitsMeans Passes treeFits leadsOn
+unfolding FitsMeans TreeRight treeFits leadsOn
 fits-means words id = go (present root) refl
   where
     root : ℕ

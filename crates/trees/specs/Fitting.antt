@@ -36,8 +36,8 @@ pub record Stands (words : List ℕ) (id d : ℕ) : Type 0 where
   pub alone : (r i : ℕ) → r < 64 → (r ≡ id → ⊥) → LiesBelow words d i → Reaches words r i → ⊥
 
 -- the code's test is that: the root is absent, or its tree stands by itself
-unfoldable pub Passes : (words : List ℕ) (id : ℕ) → Type 0
-Passes words id = (present (getD words id 0) ≡ false) ⊎ Stands words id (number (getD words id 0))
+unfoldable pub TreeRight : (words : List ℕ) (id : ℕ) → Type 0
+TreeRight words id = (present (getD words id 0) ≡ false) ⊎ Stands words id (number (getD words id 0))
 
 unfoldable pub FitsMeans : Type 0
-FitsMeans = (words : List ℕ) (id : ℕ) → (treeFits words id ≡ true → Passes words id) × (Passes words id → treeFits words id ≡ true)
+FitsMeans = (words : List ℕ) (id : ℕ) → (treeFits words id ≡ true → TreeRight words id) × (TreeRight words id → treeFits words id ≡ true)
