@@ -49,12 +49,12 @@ pub record Left : Type 0 where
   pub writes : (afterStores (lent three-pages) made) .words ≡ set (set three-pages 1024 0x9FF80064) 1025 0x10000065
 
 stores : Left
-unfolding emptiedIn doneOf afterStores afterStore storeReply bufferAfterStore wordsAfterStore storedWords storeRefusal indexFits refuseUnless
-    byRefusal registersFit all fitsAt field toWords fromWords widths zeroRegisters bufferFits tablesFit lengthFits emptied count keptAt kept
-    isEmpty agreesWithTables agreesWithLeaf swept sweptFirst sweptSlot settled written slotAt withSlot unpack pack join lowBits sameLow
-    sameEntry emptyFields emptyEntry setOf location vpn15Of vpnAt leafEntry leafValid leafKernel leafWe leafPfn walkPage globalFirst walkTree
-    descend leafAt stopAt indexBelow indexIn stretchSize present broken inside reserved number lent loaded empty startBuffer emptyFirst
-    three-pages pages tree
+unfolding emptiedIn doneOf afterStores afterStore storeReply bufferAfterStore wordsAfterStore storedWords storeRefusal indexFits
+    refuseUnless byRefusal registersFit all fitsAt field toWords fromWords widths zeroRegisters bufferFits tablesFit lengthFits
+    emptied count keptAt kept isEmpty agreesWithTables agreesWithLeaf swept sweptFirst sweptSlot settled written slotAt withSlot
+    unpack pack join lowBits sameLow sameEntry emptyFields emptyEntry setOf location vpn15Of vpnAt leafEntry leafValid leafKernel
+    leafWe leafPfn walkPage globalFirst walkTree descend leafAt stopAt indexBelow indexIn stretchSize present broken inside reserved
+    number lent loaded empty startBuffer emptyFirst three-pages pages tree
 stores = record { empties = refl; sweeps = refl; writes = refl }
 
 -- the answer, by the slots emptied
