@@ -184,7 +184,8 @@ module _ (words : List ℕ) (p : Pool) (id : ℕ) where
         bit-true (holds p (leafPfn (f .word))) (omega (arith, one-page (leafPfn (f .word)) vpn 524288 vl, w (leafPfn (f .word))));
     once = λ vpn other f g vl ol found found-too low high same.
         let one = maps-page vpn f found (in-pool (p .first) (p .size) (leafPfn (f .word)) low high) (leafPfn (f .word)) refl in
-        let chosen = subst (λ (k : ℕ). inPool (p .first) (p .size) k ≡ true) same (in-pool (p .first) (p .size) (leafPfn (f .word)) low high) in
+        let chosen = subst (λ (k : ℕ). inPool (p .first) (p .size) k ≡ true) same
+        (in-pool (p .first) (p .size) (leafPfn (f .word)) low high) in
         let two = maps-page other g found-too chosen (leafPfn (f .word)) (sym same) in
         ordered vpn other (leafPfn (f .word)) vl ol one two;
   }

@@ -22,7 +22,8 @@ use Rattle.collector.specs.Frames.{givenOf, poolAfterGives}
 use Rattle.collector.specs.Collect.{visitedBy, storesOf, collectAnswer, bufferAfterCollect, wordsAfterCollect}
 use Rattle.collector.specs.declared.Collected.{Collected}
 use Rattle.collector.proofs.Visited.{pass-inside}
-use Rattle.passes.specs.AsStores.{Stored, leftBy, StoresMade, lastLeft, NoneRefused, emptiedBy, PassAsStores, StoresCanBeMade, NoneStale}
+use Rattle.passes.specs.AsStores.{Stored, leftBy, StoresMade, lastLeft, NoneRefused, emptiedBy}
+use Rattle.passes.specs.AsStores.{PassAsStores, StoresCanBeMade, NoneStale}
 use Rattle.passes.proofs.Accepted.{grounds}
 
 -- a store leaves what its definition says
