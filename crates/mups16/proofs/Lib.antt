@@ -1,0 +1,12 @@
+pub mod Refusing
+pub mod EntryLaws
+pub mod MapLaws
+pub mod ReadLaws
+pub mod SetLaws
+pub mod AfterSet
+pub mod MapsAlike
+pub mod OwnTable
+pub mod SetIsRead
+pub mod SetIsMapped
+pub mod Histories
+pub mod LastFault

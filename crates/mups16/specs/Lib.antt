@@ -1,0 +1,12 @@
+pub mod Answers
+pub mod Entries
+pub mod States
+pub mod Faults
+pub mod Map
+pub mod Read
+pub mod Set
+pub mod OwnTable
+pub mod SetIsRead
+pub mod SetIsMapped
+pub mod Histories
+pub mod LastFault
