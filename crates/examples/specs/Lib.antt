@@ -16,3 +16,4 @@ pub mod Reads
 pub mod Pools
 pub mod HostBytes
 pub mod Examples
+pub mod Mups16
