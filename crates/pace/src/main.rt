@@ -1,5 +1,7 @@
 // Makes one of the unit's calls many times: what the measurements drive. Standard input has a scenario and a count, two words of four
 // bytes; standard output gets the sum of the answers, eight bytes. tests/PROTOCOL.md gives the scenarios.
+mod mups16_scenarios;
+
 ghost use Prim.Native.Nat.{_^_, _≤_, _<_};
 ghost use Rattle.entry.specs.Address.{PAGE, PAGES};
 use access::Physical;
@@ -353,6 +355,9 @@ fn run(r: Registers, buffer: &mut [u64], words: &mut [u32], scenario: u32, count
     if scenario == 8 {
         let pool = fill_tables(r, buffer, words);
         return run_passes(r, buffer, words, pool, ALL_PAGES, count);
+    }
+    if (scenario == 9) | (scenario == 10) {
+        return mups16_scenarios::run(scenario, count);
     }
     run_served(r, buffer, words, scenario, count)
 }

@@ -1,5 +1,7 @@
 // Makes the unit's calls one after another, as standard input asks, and writes each answer to standard output: what the
 // comparison with the second program drives. tests/PROTOCOL.md gives the bytes of requests and answers.
+mod mups16_calls;
+
 ghost use mathlib.Core.Path.{_≡_};
 ghost use Prim.Native.Nat.{_*_, _≤_};
 ghost use lib.ListN.{length};
@@ -10,12 +12,13 @@ use heap::Mapped;
 use heap::Pool;
 use heap::PoolReply;
 use mmu::RawReply;
+use mups16::State;
 use page_table::Walk;
 use registers::Outcome;
 use registers::Registers;
 use registers::Reply;
 
-// A call's kind, its four arguments, and how long its runs are.
+// A call's kind, its four arguments, how long its runs are, the registers, and the state of the MUPS/16 unit.
 struct Request {
     kind: u32,
     first: u32,
@@ -25,6 +28,7 @@ struct Request {
     slots: u32,
     words: u32,
     registers: Registers,
+    state: State,
 }
 
 // The four words of an answer, and the registers.
@@ -65,10 +69,21 @@ const POOL_BYTES: usize = 512;
 // In place of a number of table words: the input has ended.
 const END: usize = WORDS + 1;
 
-// The least kind of a call on a pool, and the highest kind of all.
+// The least kind of a call on a pool and the highest, and the highest kind of all.
 const POOL_KIND: u32 = 9;
 
-const LAST_KIND: u32 = 14;
+const LAST_POOL_KIND: u32 = 14;
+
+const LAST_KIND: u32 = mups16_calls::KIND;
+
+fn has_pool(kind: u32) -> bool {
+    (POOL_KIND <= kind) & (kind <= LAST_POOL_KIND)
+}
+
+// Whether a request names a call.
+fn names_call(q: Request) -> bool {
+    (q.kind <= LAST_KIND) & ((q.kind != mups16_calls::KIND) | mups16_calls::is_operation(q.first))
+}
 
 fn answered(first: u32, second: u32, third: u32, fourth: u32, registers: Registers) -> Answer {
     Answer {
@@ -323,8 +338,8 @@ fn write_tables(kind: u32, tables: &[u32], bytes: &mut [u8])
     io::write_all(1, &bytes[..end]);
 }
 
-// The request that a head of eight words and the registers hold; a kind that is none where the input has ended.
-fn requested(got: bool, w: [u32; 8], fields: [u32; 11]) -> Request {
+// The request that a head of eight words, the registers and a state hold; a kind that is none where the input has ended.
+fn requested(got: bool, w: [u32; 8], fields: [u32; 11], state: State) -> Request {
     let registers = registers::from_words(fields);
     Request {
         kind: if got { w[0] } else { LAST_KIND + 1 },
@@ -335,6 +350,7 @@ fn requested(got: bool, w: [u32; 8], fields: [u32; 11]) -> Request {
         slots: w[5],
         words: w[6],
         registers,
+        state,
     }
 }
 
@@ -345,7 +361,9 @@ fn read_request() -> Request {
     let mut field_bytes = [0u8; REGISTER_BYTES];
     let mut fields = [0u32; 11];
     let got = head & read_words(&mut field_bytes, &mut fields);
-    requested(got, words, fields)
+    let s = mups16_calls::read_state(words[0]);
+    let state = s.state;
+    requested(got & s.got, words, fields, state)
 }
 
 // Reads a pool where the kind has one.
@@ -353,7 +371,7 @@ fn read_pool(kind: u32) -> PoolRead {
     let mut bits = [0u64; 64];
     let mut frames = [0u32; 2];
     let mut got = true;
-    if POOL_KIND <= kind {
+    if has_pool(kind) {
         let mut head = [0u8; 8];
         let mut bytes = [0u8; POOL_BYTES];
         got = read_words(&mut head, &mut frames) & read_numbers(&mut bytes, &mut bits);
@@ -380,6 +398,25 @@ fn read_tables(bytes: &mut [u8], tables: &mut [u32], count: usize, held: usize) 
     END
 }
 
+// Makes a request's call, and writes the answer's words, the registers, and the pool or the state after it.
+fn answer_call(q: Request, pool: Pool, buffer: &mut [u64], tables: &mut [u32])
+    requires { ⌜ length (now tables) ≤ WORDS ⌝ }
+{
+    if has_pool(q.kind) {
+        let p = pool_call(q, pool, buffer, tables);
+        let answer = p.answer;
+        let after = p.pool;
+        write_answer(answer);
+        write_pool(after);
+        return;
+    }
+    if q.kind == mups16_calls::KIND {
+        mups16_calls::reply(q, tables);
+        return;
+    }
+    write_answer(call(q, buffer, tables));
+}
+
 // Makes a request's call over its runs, and writes the answer.
 fn reply(
     q: Request,
@@ -391,17 +428,7 @@ fn reply(
 )
     requires { ⌜ (length (now bytes) ≡ 8 * length (now buffer)) × (length (now «table_bytes») ≡ 4 * WORDS) × (length (now tables) ≤ WORDS) ⌝ }
 {
-    if POOL_KIND <= q.kind {
-        let p = pool_call(q, pool, buffer, tables);
-        let answer = p.answer;
-        let after = p.pool;
-        write_answer(answer);
-        write_pool(after);
-        write_numbers(buffer, bytes);
-        return;
-    }
-    let a = call(q, buffer, tables);
-    write_answer(a);
+    answer_call(q, pool, buffer, tables);
     write_numbers(buffer, bytes);
     write_tables(q.kind, tables, table_bytes);
 }
@@ -449,7 +476,7 @@ fn step(
         × (length (now «table_bytes») ≡ 4 * WORDS) × (length (now tables) ≡ WORDS) ⌝ }
 {
     let q = read_request();
-    if LAST_KIND < q.kind {
+    if !names_call(q) {
         return END;
     }
     let p = read_pool(q.kind);

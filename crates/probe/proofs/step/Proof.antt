@@ -7,6 +7,9 @@ use Rattle.probe.proofs.step.Tie as tie
 read-request-requires : tie.Need-read-request-requires
 read-request-requires c κs = search needs
 
+names-call-requires : tie.Need-names-call-requires
+names-call-requires c κs = search needs
+
 returns : tie.Need-returns
 returns c = search needs
 
@@ -59,6 +62,7 @@ step-spec =
     tie.close
     (tie.spec
     read-request-requires
+    names-call-requires
     returns
     read-pool-requires
     cast-slots
