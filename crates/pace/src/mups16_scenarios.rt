@@ -41,10 +41,10 @@ fn added(sum: u64, answer: Answer) -> u64 {
 
 // Prepares the entries.
 fn set_entries(entries: &mut [u32]) {
-    let mut a: u32 = 0;
-    while a < ENTRIES {
-        mups16::set_entry(entries, a, ENTRY_STEP * a);
-        a += 1;
+    let mut place: u32 = 0;
+    while place < ENTRIES {
+        mups16::set_entry(entries, place, ENTRY_STEP * place);
+        place += 1;
     }
 }
 
@@ -65,22 +65,22 @@ fn run_tables(entries: &[u32], begun: State, count: u32) -> u64 {
     sum
 }
 
-// What reads of an entry's two words and of the fault address add to the sum.
-fn read_all(sum: u64, entries: &[u32], state: State, a: u32) -> u64 {
-    let low = mups16::read_low(entries, a);
-    let high = mups16::read_high(entries, state, a);
-    let fault = Answer::Word(mups16::fault_address(state));
-    added(added(added(sum, low), high), fault)
+// What reads of an entry's two words add to the sum.
+fn read_both(sum: u64, entries: &[u32], state: State, entry_address: u32) -> u64 {
+    let low = mups16::read_low(entries, entry_address);
+    let high = mups16::read_high(entries, state, entry_address);
+    added(added(sum, low), high)
 }
 
-// Scenario 10: one entry after the other is set and read.
+// Scenario 10: one entry after the other is set, and another one read.
 fn run_entries(entries: &mut [u32], state: State, count: u32) -> u64 {
     let mut sum: u64 = 0;
     let mut i: u64 = 0;
     while i < count as u64 {
-        let a = (i % WIDE_ENTRIES) as u32;
-        let set = mups16::set_entry(entries, a, (i % ENTRY_VALUES) as u32);
-        sum = read_all(added(sum, set), entries, state, a);
+        let place = (i % WIDE_ENTRIES) as u32;
+        let set = mups16::set_entry(entries, place, (i % ENTRY_VALUES) as u32);
+        let other = ((7 * i) % WIDE_ENTRIES) as u32;
+        sum = read_both(added(sum, set), entries, state, other);
         i += 1;
     }
     sum

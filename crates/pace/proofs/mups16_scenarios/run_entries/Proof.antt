@@ -15,8 +15,8 @@ abbrev μ-loop : tie.MeasureT-loop
 loop-holds : tie.Need-loop-holds Inv-loop μ-loop
 loop-holds c = search needs
 
-cast-a : tie.Need-cast-a Inv-loop μ-loop
-cast-a c = omega arith
+cast-place : tie.Need-cast-place Inv-loop μ-loop
+cast-place c = omega arith
 
 cast-set-entry : tie.Need-cast-set-entry Inv-loop μ-loop
 cast-set-entry c = omega arith
@@ -24,11 +24,17 @@ cast-set-entry c = omega arith
 set-entry-requires : tie.Need-set-entry-requires Inv-loop μ-loop
 set-entry-requires c κs = tt
 
+mul-other : tie.Need-mul-other Inv-loop μ-loop
+mul-other c = omega arith
+
+cast-other : tie.Need-cast-other Inv-loop μ-loop
+cast-other c = omega arith
+
 added-requires : tie.Need-added-requires Inv-loop μ-loop
 added-requires c κs = tt
 
-read-all-requires : tie.Need-read-all-requires Inv-loop μ-loop
-read-all-requires c κs = tt
+read-both-requires : tie.Need-read-both-requires Inv-loop μ-loop
+read-both-requires c κs = tt
 
 add-i : tie.Need-add-i Inv-loop μ-loop
 add-i c = omega arith
@@ -52,11 +58,13 @@ run-entries-spec =
     Inv-loop
     μ-loop
     loop-holds
-    cast-a
+    cast-place
     cast-set-entry
     set-entry-requires
+    mul-other
+    cast-other
     added-requires
-    read-all-requires
+    read-both-requires
     add-i
     loop-less
     loop-again

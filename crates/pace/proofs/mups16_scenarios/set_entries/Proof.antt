@@ -7,10 +7,10 @@ use Rattle.pace.proofs.mups16_scenarios.set_entries.Statement.{statemen
 use Rattle.pace.proofs.mups16_scenarios.set_entries.Tie as tie
 
 abbrev Inv-loop : tie.InvT-loop
-Inv-loop entries₀ a₀ entries a = (length entries ≡ length entries₀) × (a ≤ 8192)
+Inv-loop entries₀ place₀ entries place = (length entries ≡ length entries₀) × (place ≤ 8192)
 
 abbrev μ-loop : tie.MeasureT-loop
-μ-loop entries₀ a₀ entries a = 8192 - a
+μ-loop entries₀ place₀ entries place = 8192 - place
 
 loop-holds : tie.Need-loop-holds Inv-loop μ-loop
 loop-holds c = search needs
@@ -21,8 +21,8 @@ mul-set-entry c = omega arith
 set-entry-requires : tie.Need-set-entry-requires Inv-loop μ-loop
 set-entry-requires c κs = tt
 
-add-a : tie.Need-add-a Inv-loop μ-loop
-add-a c = omega arith
+add-place : tie.Need-add-place Inv-loop μ-loop
+add-place c = omega arith
 
 loop-less : tie.Need-loop-less Inv-loop μ-loop
 loop-less c = omega arith
@@ -45,7 +45,7 @@ set-entries-spec =
     loop-holds
     mul-set-entry
     set-entry-requires
-    add-a
+    add-place
     loop-less
     loop-again
     same-length
