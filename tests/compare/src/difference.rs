@@ -3,6 +3,7 @@
 use crate::expected::walk_is_possible;
 use crate::protocol::{Answer, Call, Request};
 use reference::heap::Pool;
+use reference::mups16::STATE_WORDS;
 use reference::{location, slots_of, vpn, walk, Access, Walk, FIELDS, FIELD_NAMES, SELECT, SLOTS};
 
 /// What is worth telling of the table run that a call found.
@@ -33,6 +34,9 @@ pub fn print(case: usize, request: &Request, found: &Found, expected: &Answer, g
     if let Some(pool) = &request.pool {
         println!("  pool of {} frames from pfn {} on", pool.size, pool.first);
     }
+    if let Some(state) = request.state {
+        println!("  state before: {}", state_text(state));
+    }
     println!("  buffer of {} numbers", request.buffer.len());
     println!("  table run of {} words", found.words);
     match request.call {
@@ -61,6 +65,12 @@ pub fn print(case: usize, request: &Request, found: &Found, expected: &Answer, g
     if let (Some(before), Some(ours), Some(theirs)) = (&request.pool, &expected.pool, &got.pool) {
         print_pool(before, ours, theirs);
     }
+    if let (Some(ours), Some(theirs)) = (expected.state, got.state) {
+        if ours != theirs {
+            println!("  state after: reference {}", state_text(ours));
+            println!("               program {}", state_text(theirs));
+        }
+    }
     for (n, before) in request.buffer.iter().enumerate() {
         let (ours, theirs) = (expected.buffer[n], got.buffer[n]);
         if ours != theirs {
@@ -72,6 +82,10 @@ pub fn print(case: usize, request: &Request, found: &Found, expected: &Answer, g
             println!("  table word {n}: reference {ours:X}, program {theirs:X}");
         }
     }
+}
+
+fn state_text([index, boot_mode, fault_address]: [u32; STATE_WORDS]) -> String {
+    format!("table index {index:X}, boot mode {boot_mode:X}, fault address {fault_address:X}")
 }
 
 fn print_pool(before: &Pool, ours: &Pool, theirs: &Pool) {
