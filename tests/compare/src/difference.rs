@@ -10,6 +10,8 @@ use reference::{location, slots_of, vpn, walk, Access, Walk, FIELDS, FIELD_NAMES
 pub struct Found {
     words: usize,
     walk: Option<Walk>,
+    /// The entry of the MUPS/16 unit that a call is about.
+    entry: Option<u32>,
 }
 
 impl Found {
@@ -19,7 +21,12 @@ impl Found {
             Call::Served(access) => Some((request.registers[5], vpn(access.address))),
             _ => None,
         };
+        let place = match request.call {
+            Call::Mups16(call) => call.place(request.state()),
+            _ => None,
+        };
         Found {
+            entry: place.and_then(|place| tables.get(place).copied()),
             words: tables.len(),
             walk: page
                 .filter(|&(page_id, vpn)| walk_is_possible(page_id, vpn, tables))
@@ -50,6 +57,9 @@ pub fn print(case: usize, request: &Request, found: &Found, expected: &Answer, g
             }
         }
         _ => {}
+    }
+    if let Some(entry) = found.entry {
+        println!("  entry before: {entry:X}");
     }
     if let Some(walk) = found.walk {
         println!("  reference walks to {walk:X?}");

@@ -1,6 +1,6 @@
 //! A call of the MUPS/16 unit as the program `probe` is asked for it.
 
-use reference::mups16::Mapping;
+use reference::mups16::{Mapping, State, ENTRIES, PAGES};
 
 /// The kind that asks for such a call.
 pub const KIND: u32 = 15;
@@ -77,6 +77,15 @@ impl UnitCall {
             user: lines & 1 == 1,
             write: lines & 2 == 2,
         })
+    }
+
+    /// The place of the entry that the call is about, where it needs one.
+    pub fn place(self, state: State) -> Option<usize> {
+        match self.operation {
+            Operation::Map => Some((PAGES * state.table_index + self.a / PAGES) as usize),
+            Operation::FaultAddress | Operation::SetIndex => None,
+            _ => Some(self.a as usize % ENTRIES),
+        }
     }
 
     /// What a map is to map.

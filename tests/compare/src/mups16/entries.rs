@@ -11,8 +11,9 @@ const READS: [Operation; 2] = [Operation::LowWord, Operation::HighWord];
 
 pub const AFTER_READS: &str = "reads of entries";
 pub const AFTER_SET: &str = "a set of an entry";
+pub const AFTER_NEIGHBOURS: &str = "a set of an entry and reads around it";
 
-/// The table run is asked for after one set of so many.
+/// The table run is asked for right after one set of so many, and so often after the reads.
 const SETS_TO_THE_RUN: usize = 6;
 
 /// Other entries than the one that is set, by their distance.
@@ -99,6 +100,9 @@ fn set_and_read(
     unit.state = words::state(random, boot_mode);
     let call = set_entry(random, a, entry);
     unit.call(to, random, call, Vec::new());
+    if random.one_in(SETS_TO_THE_RUN) {
+        ask_after(to, AFTER_SET);
+    }
     for operation in READS {
         let other = other_address_of(random, a);
         let call = read(random, operation, other);
@@ -122,6 +126,6 @@ fn set_and_read(
         unit.call(to, random, call, vec![neighbour(name, operation)]);
     }
     if random.one_in(SETS_TO_THE_RUN) {
-        ask_after(to, AFTER_SET);
+        ask_after(to, AFTER_NEIGHBOURS);
     }
 }

@@ -38,17 +38,13 @@ fn every_place(to: &mut dyn PutJudged, random: &mut Random, unit: &mut Unit) {
     let places: Vec<(u32, u32)> = ends.chain(whole.into_iter().flatten()).collect();
     for (table, page) in places {
         for offset in [0, 255, 1 + random.below(254) as u32] {
-            unit.state = words::state(random, random_mode(page));
+            let boots_first = random.one_in(2);
+            unit.state = words::state(random, boots_first);
             unit.state.table_index = table;
-            let call = any_map(random, (256 * page + offset) as u16);
+            let call = any_map(random, (PAGES * page + offset) as u16);
             unit.call(to, random, call, Vec::new());
-            unit.state.boot_mode = !unit.state.boot_mode;
+            unit.state.boot_mode = !boots_first;
             unit.call(to, random, call, Vec::new());
         }
     }
-}
-
-/// Boot mode comes first for odd pages.
-fn random_mode(page: u32) -> bool {
-    page % 2 == 1
 }

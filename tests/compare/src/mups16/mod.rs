@@ -9,6 +9,8 @@ mod at_random;
 pub mod call;
 mod comparison;
 mod entries;
+mod fault_addresses;
+mod handed;
 mod indices;
 mod maps;
 mod outcome;
@@ -19,11 +21,11 @@ pub mod stand_ins;
 mod unit;
 mod words;
 
-use crate::put::PutJudged;
+use crate::put::{put_at_random, PutJudged};
 use crate::random::Random;
 use comparison::Comparison;
 
-pub const CASES: usize = 200_000;
+pub const CASES: usize = 300_000;
 
 pub fn compare(program: &str, seed: u64, number: usize) -> Result<bool, String> {
     let mut comparison = Comparison::start(program)?;
@@ -40,12 +42,8 @@ fn put(to: &mut dyn PutJudged, seed: u64, number: usize) {
     maps::put(to, &mut random);
     entries::put(to, &mut random);
     indices::put(to, &mut random);
+    fault_addresses::put(to, &mut random);
+    handed::put(to, &mut random);
     apart::put(to, &mut random);
-    let total = to.count() + number / 2;
-    at_random::put(to, &mut random, total);
-    let total = to.count() + number / 2;
-    while to.wants_more(total) {
-        to.may_restart();
-        sequence::put(to, &mut random);
-    }
+    put_at_random(to, &mut random, number, at_random::put, sequence::put);
 }

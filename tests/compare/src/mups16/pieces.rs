@@ -2,9 +2,10 @@
 
 use super::at_random::any_call;
 use super::comparison::Comparison;
-use super::unit::{ask_after, Unit};
+use super::unit::Unit;
 use super::words;
 use crate::alone::Alone;
+use crate::cases::tables::ask_for_tables;
 use crate::program::Program;
 use crate::random::Random;
 use reference::mups16::ENTRIES;
@@ -56,7 +57,7 @@ impl Script {
             for _ in 0..CALLS {
                 any_call(&mut to, random, &mut unit);
             }
-            ask_after(&mut to, "them");
+            ask_for_tables(&mut to);
         }
         script
     }
@@ -64,12 +65,8 @@ impl Script {
     fn cut(&self, length: usize) -> Vec<Vec<u8>> {
         let rest = self.requests[1..].concat();
         let first = self.requests[0].chunks(LONG_PIECE);
-        let in_pieces = |rest: &[u8], length: usize| -> Vec<Vec<u8>> {
-            rest.chunks(length).map(<[u8]>::to_vec).collect()
-        };
-        let mut pieces: Vec<Vec<u8>> = first.map(<[u8]>::to_vec).collect();
-        pieces.extend(in_pieces(&rest, length));
-        pieces
+        let pieces = first.chain(rest.chunks(length));
+        pieces.map(<[u8]>::to_vec).collect()
     }
 }
 

@@ -6,12 +6,13 @@ use super::refusals::inside;
 use super::unit::{self, judges, Unit};
 use super::words;
 use crate::cases::state;
+use crate::cases::tables::ask_for_tables;
 use crate::pools::shapes;
 use crate::protocol::{Call, PoolCall, Request};
 use crate::put::PutJudged;
 use crate::random::Random;
 use reference::mups16::{ENTRIES, PAGES};
-use reference::{Access, Registers, SLOTS};
+use reference::{Access, SLOTS};
 
 const CALL: &str = "sequence";
 
@@ -157,10 +158,11 @@ impl Sequence {
             self.last_map = Some(WAS_REFUSED);
         }
         self.unit.hand_over(kept);
-        let place = words::place(random);
-        let call = unit::read(random, Operation::LowWord, place);
         self.pending.push(after(REFUSED));
-        self.put(to, random, call);
+        match random.one_in(2) {
+            true => self.fault_address(to, random),
+            false => self.read(to, random),
+        }
     }
 
     /// A call of the other unit over the same run.
@@ -198,8 +200,7 @@ impl Sequence {
     }
 
     fn ask_for_run(&mut self, to: &mut dyn PutJudged) {
-        let request = Request::without_run(Call::Tables, Registers::default(), Vec::new());
-        to.put_judged(judges(Vec::new()), request);
+        ask_for_tables(to);
         self.pending.push(after(TABLES));
     }
 

@@ -62,22 +62,22 @@ pub fn entry_of_kind(random: &mut Random, number: u32) -> u32 {
     junk_of_kind(random, number / STATUSES) | status << 16 | page(random)
 }
 
-/// Entries of every kind in each table, or any.
+/// A run of any entries, or of one kind after another.
 pub fn run(random: &mut Random, length: usize) -> Vec<u32> {
-    let is_even = random.one_in(2);
-    (0..length as u32)
-        .map(|place| match is_even {
-            true => entry_of_kind(random, place),
-            false => entry(random),
-        })
-        .collect()
+    match random.one_in(2) {
+        true => kinds(random, length),
+        false => (0..length).map(|_| entry(random)).collect(),
+    }
 }
 
 /// A run in which entries of each kind follow one another.
 pub fn run_of_every_kind(random: &mut Random) -> Vec<u32> {
-    (0..ENTRIES as u32)
-        .map(|place| entry_of_kind(random, place))
-        .collect()
+    kinds(random, ENTRIES)
+}
+
+fn kinds(random: &mut Random, length: usize) -> Vec<u32> {
+    let places = 0..length as u32;
+    places.map(|place| entry_of_kind(random, place)).collect()
 }
 
 pub fn place(random: &mut Random) -> u32 {

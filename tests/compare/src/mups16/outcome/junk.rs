@@ -3,7 +3,6 @@
 use super::super::call::{Operation, WITH_RUN};
 use super::super::words::ENTRY_BITS;
 use super::{mode, Case};
-use reference::mups16::{ENTRIES, PAGES};
 
 const GIVEN: &str = "set of an entry, given one with";
 
@@ -23,13 +22,11 @@ pub fn all() -> Vec<String> {
 
 pub fn of(case: &Case) -> Vec<String> {
     let (call, state) = (case.call, case.state);
-    let place = match call.operation {
-        Operation::Map => (PAGES * state.table_index + call.a / PAGES) as usize,
-        Operation::FaultAddress | Operation::SetIndex => return Vec::new(),
-        _ => call.a as usize % ENTRIES,
+    let Some(entry) = case.entry() else {
+        return Vec::new();
     };
     let found = found(call.operation, state.boot_mode);
-    let mut outcomes = vec![with(&found, case.entries[place])];
+    let mut outcomes = vec![with(&found, entry)];
     if call.operation == Operation::SetEntry {
         outcomes.push(with(GIVEN, call.b));
     }

@@ -28,14 +28,15 @@ pub fn all() -> Vec<String> {
 pub fn of(case: &Case) -> Vec<String> {
     let (call, state) = (case.call, case.state);
     let (page, offset) = (call.a / PAGES, call.a % PAGES);
-    let place = PAGES * state.table_index + page;
-    let status = Entry::unpack(case.entries[place as usize]).status();
+    let entry = case.entry().expect("a map needs an entry");
+    let status = Entry::unpack(entry).status();
     let lines = u32::from(call.user) + 2 * u32::from(call.write);
     let ends = [
         end(state.table_index, TABLES),
         end(page, PAGES),
         end(offset, PAGES),
     ];
+    assert_eq!(case.faults(), faults(state.boot_mode, status, lines));
     vec![
         of_entry(state.boot_mode, status, lines),
         at(state.boot_mode, ends),
@@ -55,18 +56,27 @@ pub fn would_be(case: &Case) -> u32 {
 }
 
 fn of_entry(boot_mode: bool, status: u32, lines: u32) -> String {
-    let [mapped, system, writable] = [4, 2, 1].map(|bit| u32::from(status & bit != 0));
-    let (user, write) = (lines & 1, lines >> 1);
-    let faults = match boot_mode {
-        true => 0,
-        false => 1 - mapped + 2 * write * (1 - writable) + 4 * user * system,
-    };
+    let [mapped, system, writable] = bits(status);
     format!(
-        "map {}, mapped {mapped}, system {system}, writable {writable}, by {} {}: faults {faults}",
+        "map {}, mapped {mapped}, system {system}, writable {writable}, by {} {}: faults {}",
         mode(boot_mode),
-        ["the system's", "a user's"][user as usize],
-        ["read", "write"][write as usize],
+        ["the system's", "a user's"][lines as usize & 1],
+        ["read", "write"][lines as usize >> 1],
+        faults(boot_mode, status, lines),
     )
+}
+
+fn faults(boot_mode: bool, status: u32, lines: u32) -> u32 {
+    let [mapped, system, writable] = bits(status);
+    let (user, write) = (lines & 1, lines >> 1);
+    match boot_mode {
+        true => 0,
+        false => (1 - mapped) + 2 * write * (1 - writable) + 4 * user * system,
+    }
+}
+
+fn bits(status: u32) -> [u32; 3] {
+    [status >> 2, status >> 1 & 1, status & 1]
 }
 
 fn end(number: u32, of: u32) -> &'static str {

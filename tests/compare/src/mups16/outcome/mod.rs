@@ -10,7 +10,8 @@ mod refused;
 
 use super::call::{Operation, UnitCall, AT_ENTRIES, OPERATIONS, WITH_RUN};
 use super::unit::asked_after;
-use super::{apart, at_random, entries, indices, maps, pieces, refusals, sequence};
+use super::{apart, at_random, entries, fault_addresses, handed, indices, maps};
+use super::{pieces, refusals, sequence};
 use crate::fault;
 use crate::outcome::Runs;
 use crate::protocol::{Answer, Call, Request};
@@ -34,6 +35,12 @@ impl Case<'_> {
         self.expected.words[0] != 0
     }
 
+    /// The entry that an accepted call is about, where it needs one.
+    fn entry(&self) -> Option<u32> {
+        let place = self.call.place(self.state)?;
+        Some(self.entries[place])
+    }
+
     /// The faults of a map.
     fn faults(&self) -> u32 {
         self.expected.words[2]
@@ -53,6 +60,8 @@ pub fn all() -> Vec<String> {
         beside::all(),
         entries::all(),
         indices::all(),
+        fault_addresses::all(),
+        handed::all(),
         apart::all(),
         sequence::all(),
         pieces::all(),
@@ -62,11 +71,14 @@ pub fn all() -> Vec<String> {
         maps::AFTER_MAPS,
         entries::AFTER_READS,
         entries::AFTER_SET,
+        entries::AFTER_NEIGHBOURS,
         indices::AFTER_SET,
+        fault_addresses::AFTER_READS,
         at_random::AFTER_ANY,
     ];
     all.extend(kinds.map(asked_after));
     all.extend(WITH_RUN.map(|operation| asked_after(&refusals::after_refused(operation))));
+    all.extend(OPERATIONS.map(|operation| asked_after(&handed::after(operation))));
     all.extend([NO_RUN, RUN_WITH_JUNK, fault::POSSIBLE].map(String::from));
     all
 }

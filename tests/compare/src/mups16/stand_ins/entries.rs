@@ -1,10 +1,6 @@
 //! Reads and sets of entries.
 
-use super::{Fault, Unit, ENTRY};
-
-/// A table has 256 entries, and the run 8,192.
-const TABLE: usize = 256;
-const RUN: usize = 8192;
+use super::{Fault, Unit, ENTRY, RUN, TABLE};
 
 impl Unit<'_> {
     pub fn low_word(&mut self, a: u32) -> u32 {
@@ -24,10 +20,16 @@ impl Unit<'_> {
     }
 
     pub fn high_word(&mut self, a: u32) -> u32 {
-        let place = self.place(a);
+        let index = self.index;
+        let place = match self.fault {
+            Fault::HighWordUnderIndex => TABLE * index as usize + a as usize % TABLE,
+            _ => self.place(a),
+        };
         let word = self.entries[place];
-        if self.fault == Fault::JunkClearedByHighWord {
-            self.clear_junk(place);
+        match self.fault {
+            Fault::JunkClearedByHighWord => self.clear_junk(place),
+            Fault::HighWordClearsIndex => self.index = 0,
+            _ => {}
         }
         let status = match self.fault {
             Fault::HighWordWithoutMapped => word >> 16 & 3,
@@ -38,10 +40,10 @@ impl Unit<'_> {
         };
         let index = match self.fault {
             Fault::HighWordWithoutIndex => 0,
-            Fault::HighWordIndexOf4Bits => self.index % 16,
+            Fault::HighWordIndexOf4Bits => index % 16,
             Fault::HighWordOfItsOwnTable => (place / TABLE) as u32,
             Fault::HighWordIndexZeroInBootMode if self.is_in_boot_mode() => 0,
-            _ => self.index,
+            _ => index,
         };
         match self.fault {
             Fault::HighWordBytesSwapped => 256 * status + index,
@@ -55,7 +57,10 @@ impl Unit<'_> {
             _ => self.place(a),
         };
         let old = self.entries[place];
-        let entry = self.entry(b, old);
+        let entry = match self.fault {
+            Fault::SetStatusFromAddress => (a >> 13 & 7) << 16 | b & 0xFFFF,
+            _ => self.entry(b, old),
+        };
         if self.is_made(place, b, old) {
             self.put(place, entry);
             for other in self.others(place) {
@@ -87,6 +92,7 @@ impl Unit<'_> {
                 _ => a % RUN,
             },
             Fault::EntryAddressAtMost8191 => a.min(RUN - 1),
+            Fault::EntryAddressModulo8191 => a % (RUN - 1),
             Fault::EntryAddressUnderIndex => TABLE * self.index as usize + a % TABLE,
             _ => a % RUN,
         };
@@ -117,6 +123,7 @@ impl Unit<'_> {
     fn is_made(&self, place: usize, b: u32, old: u32) -> bool {
         let is_mapped = |word: u32| word >> 18 & 1 == 1;
         match self.fault {
+            Fault::SetMadeByNextCall => false,
             Fault::SetNeverInBootMode => !self.is_in_boot_mode(),
             Fault::SetNeverOfLastEntry => place != RUN - 1,
             Fault::SetOfUnmappedIgnored => is_mapped(b),

@@ -27,6 +27,7 @@ faults! {
     RefusedEndsBootMode,
     RefusedSetMade,
     RefusedReadClearsJunk,
+    RefusedDropsRun,
 
     // The entry and the address of a map.
     PageFromLowerByte,
@@ -36,6 +37,8 @@ faults! {
     TableOneMore,
     TableOf4Bits,
     IndexAndPageSwapped,
+    TablesOf255,
+    UnmappedGoesByFirstTable,
     LastEntryUnreachable,
     PhysicalPageOf15Bits,
     PhysicalPageBytesSwapped,
@@ -113,6 +116,7 @@ faults! {
     EntryAddressOf14Bits,
     EntryAddressOf16BitsAtMost,
     EntryAddressAtMost8191,
+    EntryAddressModulo8191,
     EntryAddressUnderIndex,
     LowWordOf15Bits,
     LowWordWithStatus,
@@ -128,7 +132,10 @@ faults! {
     HighWordIndexOf4Bits,
     HighWordOfItsOwnTable,
     HighWordIndexZeroInBootMode,
+    HighWordUnderIndex,
+    HighWordClearsIndex,
     JunkClearedByMap,
+    MapCutsIndexTo4Bits,
     JunkClearedByLowWord,
     JunkClearedByHighWord,
 
@@ -142,6 +149,7 @@ faults! {
     SetWithoutStatus,
     SetStatusReversed,
     SetStatusFromTopBits,
+    SetStatusFromAddress,
     SetPageOf15Bits,
     SetWritesJunk,
     SetKeepsJunk,
@@ -153,6 +161,7 @@ faults! {
     SetChangesTableBefore,
     SetChangesEntry4096Off,
     SetChangesAllTables,
+    SetMadeByNextCall,
     SetAnswersTheEntry,
     SetAnswersTheOldEntry,
     SetClearsFaultAddress,
@@ -161,6 +170,7 @@ faults! {
 
     // The table index.
     IndexOf4Bits,
+    IndexModulo31,
     IndexOf6Bits,
     IndexOf8Bits,
     IndexNotCut,
@@ -179,6 +189,7 @@ faults! {
     BufferCleared,
     LastBufferNumberCleared,
     BufferPast64Cleared,
+    LinesOfLastCall,
     LastAnswerRepeated,
     LastFaultsRepeated,
     StateOfItsOwn,

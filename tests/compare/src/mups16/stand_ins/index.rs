@@ -7,6 +7,7 @@ impl Unit<'_> {
         let old = self.index;
         self.index = match self.fault {
             Fault::IndexOf4Bits => a % 16,
+            Fault::IndexModulo31 => a % 31,
             Fault::IndexOf6Bits => a % 64,
             Fault::IndexOf8Bits => a % 256,
             Fault::IndexNotCut => a,

@@ -1,9 +1,7 @@
 //! Maps.
 
 use super::super::call::UnitCall;
-use super::{Fault, Unit, ENTRY};
-
-const TABLE: usize = 256;
+use super::{Fault, Unit, ENTRY, TABLE};
 
 impl Unit<'_> {
     pub fn map(&mut self, call: UnitCall) -> [u32; 4] {
@@ -11,12 +9,19 @@ impl Unit<'_> {
             return self.map_in_boot_mode(call);
         }
         let place = self.place_of_map(call.a);
-        let word = self.entries[place];
+        let word = match self.entries[place] {
+            word if self.fault == Fault::UnmappedGoesByFirstTable && word >> 18 & 1 == 0 => {
+                self.entries[place % TABLE]
+            }
+            word => word,
+        };
         let faults = self.violations(word, call);
         let address = self.physical(word, call.a, faults);
         self.keep_fault_address(call, faults, address);
-        if self.fault == Fault::JunkClearedByMap {
-            self.clear_junk(place);
+        match self.fault {
+            Fault::JunkClearedByMap => self.clear_junk(place),
+            Fault::MapCutsIndexTo4Bits => self.index %= 16,
+            _ => {}
         }
         let reported = match self.fault {
             Fault::FaultIsOneNumber => u32::from(faults != 0),
@@ -42,6 +47,7 @@ impl Unit<'_> {
         };
         self.reachable(match self.fault {
             Fault::IndexAndPageSwapped => 32 * page + table,
+            Fault::TablesOf255 => 255 * table + page,
             _ => TABLE * table + page,
         })
     }

@@ -22,6 +22,9 @@ use std::rc::Rc;
 pub struct Memory {
     words: [u32; 4],
     state: Option<[u32; STATE_WORDS]>,
+    call: Option<UnitCall>,
+    /// A set that the next call is to make.
+    late: Option<UnitCall>,
 }
 
 /// The unit for one call.
@@ -48,7 +51,10 @@ pub fn answer(
         fault_address,
         entries: tables,
     };
-    let right = unit.call(call);
+    if let Some(late) = memory.late.take() {
+        unit.set_late(late);
+    }
+    let right = unit.call(with_last_lines(fault, call, memory));
     let state = [unit.index, unit.boot_mode, unit.fault_address];
     let [form, value, faults, zero] = right;
     let words = match fault {
@@ -59,6 +65,8 @@ pub fn answer(
     *memory = Memory {
         words: right,
         state: Some(state),
+        call: Some(call),
+        late: is_late(fault, call, form).then_some(call),
     };
     let (registers, buffer) = beside(fault, request);
     Answer {
@@ -79,6 +87,23 @@ fn handed(fault: Fault, request: &Request, memory: &Memory) -> [u32; STATE_WORDS
         (Fault::FaultAddressOfItsOwn, Some([_, _, kept])) => [handed[0], handed[1], kept],
         _ => handed,
     }
+}
+
+/// The call as the fault makes it.
+fn with_last_lines(fault: Fault, call: UnitCall, memory: &Memory) -> UnitCall {
+    match (fault, memory.call) {
+        (Fault::LinesOfLastCall, Some(UnitCall { user, write, .. })) => UnitCall {
+            user,
+            write,
+            ..call
+        },
+        _ => call,
+    }
+}
+
+/// Whether the next call is to make this set.
+fn is_late(fault: Fault, call: UnitCall, form: u32) -> bool {
+    fault == Fault::SetMadeByNextCall && call.operation == Operation::SetEntry && form == 0
 }
 
 impl Unit<'_> {
@@ -105,6 +130,13 @@ impl Unit<'_> {
         Rc::make_mut(self.entries)[place] = word;
     }
 
+    fn set_late(&mut self, call: UnitCall) {
+        let place = self.place(call.a);
+        if place < self.entries.len() {
+            self.put(place, call.b & ENTRY);
+        }
+    }
+
     fn clear_junk(&mut self, place: usize) {
         self.put(place, self.entries[place] & ENTRY);
     }
@@ -112,6 +144,10 @@ impl Unit<'_> {
 
 /// The bits that an entry has.
 const ENTRY: u32 = 0x7_FFFF;
+
+/// A table has 256 entries, and the run 8,192.
+const TABLE: usize = 256;
+const RUN: usize = 8192;
 
 fn done(value: u32) -> [u32; 4] {
     [0, value, 0, 0]

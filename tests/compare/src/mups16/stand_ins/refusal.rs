@@ -1,9 +1,8 @@
 //! Which calls a stand-in refuses, and what comes of them.
 
 use super::super::call::{Operation, UnitCall};
-use super::{Fault, Unit, ENTRY};
-
-const RUN: usize = 8192;
+use super::{Fault, Unit, ENTRY, RUN};
+use std::rc::Rc;
 
 impl Unit<'_> {
     pub fn is_refused(&self, call: UnitCall) -> bool {
@@ -60,6 +59,7 @@ impl Unit<'_> {
             (Fault::RefusedClearsFaultAddress, _) => self.fault_address = 0,
             (Fault::RefusedClearsIndex, _) => self.index = 0,
             (Fault::RefusedEndsBootMode, _) => self.boot_mode = 0,
+            (Fault::RefusedDropsRun, _) => *self.entries = Rc::default(),
             (Fault::RefusedSetMade, Operation::SetEntry) if is_inside => {
                 self.put(place, call.b & ENTRY)
             }
