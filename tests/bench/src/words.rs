@@ -11,7 +11,7 @@ use std::path::Path;
 use std::time::Duration;
 
 /// Each with the number of calls that is tried first.
-const SCENARIOS: [(&str, u32); 9] = [
+const SCENARIOS: [(&str, u32); 11] = [
     ("raw access, hit", MANY),
     ("served access, hit", MANY),
     ("served access, miss with a load", MANY),
@@ -21,6 +21,8 @@ const SCENARIOS: [(&str, u32); 9] = [
     ("map of a frame, and its give", MANY),
     ("a pass twice over 80 pages and mapping them again", 16),
     ("a pass twice over 4,096 pages and mapping them again", 1),
+    ("MUPS/16: table index set, address mapped", MANY),
+    ("MUPS/16: entry set, its words and fault address read", MANY),
 ];
 
 const MANY: u32 = 1 << 12;

@@ -187,6 +187,11 @@ impl<O: Outcomes> Comparison<O> {
         self.in_process = 0;
     }
 
+    /// Counts an outcome of what was put to the program elsewhere.
+    pub fn add(&mut self, outcome: &str, agreed: bool) {
+        self.exchange.add(outcome, agreed);
+    }
+
     /// Prints the counts; true where every outcome passed.
     pub fn finish(self) -> bool {
         self.exchange.finish()

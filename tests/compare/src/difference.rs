@@ -3,12 +3,15 @@
 use crate::expected::walk_is_possible;
 use crate::protocol::{Answer, Call, Request};
 use reference::heap::Pool;
+use reference::mups16::STATE_WORDS;
 use reference::{location, slots_of, vpn, walk, Access, Walk, FIELDS, FIELD_NAMES, SELECT, SLOTS};
 
 /// What is worth telling of the table run that a call found.
 pub struct Found {
     words: usize,
     walk: Option<Walk>,
+    /// The entry of the MUPS/16 unit that a call is about.
+    entry: Option<u32>,
 }
 
 impl Found {
@@ -18,7 +21,12 @@ impl Found {
             Call::Served(access) => Some((request.registers[5], vpn(access.address))),
             _ => None,
         };
+        let place = match request.call {
+            Call::Mups16(call) => call.place(request.state()),
+            _ => None,
+        };
         Found {
+            entry: place.and_then(|place| tables.get(place).copied()),
             words: tables.len(),
             walk: page
                 .filter(|&(page_id, vpn)| walk_is_possible(page_id, vpn, tables))
@@ -32,6 +40,9 @@ pub fn print(case: usize, request: &Request, found: &Found, expected: &Answer, g
     println!("  registers before: {}", registers(&request.registers));
     if let Some(pool) = &request.pool {
         println!("  pool of {} frames from pfn {} on", pool.size, pool.first);
+    }
+    if let Some(state) = request.state {
+        println!("  state before: {}", state_text(state));
     }
     println!("  buffer of {} numbers", request.buffer.len());
     println!("  table run of {} words", found.words);
@@ -47,6 +58,9 @@ pub fn print(case: usize, request: &Request, found: &Found, expected: &Answer, g
         }
         _ => {}
     }
+    if let Some(entry) = found.entry {
+        println!("  entry before: {entry:X}");
+    }
     if let Some(walk) = found.walk {
         println!("  reference walks to {walk:X?}");
     }
@@ -61,6 +75,12 @@ pub fn print(case: usize, request: &Request, found: &Found, expected: &Answer, g
     if let (Some(before), Some(ours), Some(theirs)) = (&request.pool, &expected.pool, &got.pool) {
         print_pool(before, ours, theirs);
     }
+    if let (Some(ours), Some(theirs)) = (expected.state, got.state) {
+        if ours != theirs {
+            println!("  state after: reference {}", state_text(ours));
+            println!("               program {}", state_text(theirs));
+        }
+    }
     for (n, before) in request.buffer.iter().enumerate() {
         let (ours, theirs) = (expected.buffer[n], got.buffer[n]);
         if ours != theirs {
@@ -72,6 +92,10 @@ pub fn print(case: usize, request: &Request, found: &Found, expected: &Answer, g
             println!("  table word {n}: reference {ours:X}, program {theirs:X}");
         }
     }
+}
+
+fn state_text([index, boot_mode, fault_address]: [u32; STATE_WORDS]) -> String {
+    format!("table index {index:X}, boot mode {boot_mode:X}, fault address {fault_address:X}")
 }
 
 fn print_pool(before: &Pool, ours: &Pool, theirs: &Pool) {

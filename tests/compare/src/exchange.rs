@@ -110,6 +110,11 @@ impl<Q: Question> Exchange<Q> {
         }
     }
 
+    /// Counts an outcome of what was asked elsewhere.
+    pub fn add(&mut self, outcome: &str, agreed: bool) {
+        self.report.add(outcome, agreed);
+    }
+
     /// Prints the counts; true where every outcome passed.
     pub fn finish(mut self) -> bool {
         self.end_program();

@@ -1,8 +1,10 @@
 //! The answer that the reference gives to a request.
 
+use crate::mups16::call::{Operation, UnitCall};
 use crate::protocol::{Answer, Call, PoolCall, Request};
 use reference::collector::by_tables;
 use reference::heap::{self, Mapping};
+use reference::mups16::{self, State};
 use reference::*;
 use std::rc::Rc;
 
@@ -20,6 +22,7 @@ pub fn walk_is_possible(page_id: u32, vpn: u32, tables: &[u32]) -> bool {
 pub fn answer(request: &Request, tables: &mut Rc<Vec<u32>>) -> Answer {
     let registers = Registers::from_words(request.registers);
     let mut pool = request.pool.clone();
+    let mut state = request.state;
     let mut buffer = request.buffer.clone();
     let mut kept = Vec::new();
     let (words, registers) = match request.call {
@@ -87,14 +90,49 @@ pub fn answer(request: &Request, tables: &mut Rc<Vec<u32>>) -> Answer {
             pool = Some(Box::new(after));
             words_of_reply_with(pass.reply, pass.given)
         }
+        Call::Mups16(call) => {
+            let (words, after) = of_mups16(call, request.state(), tables);
+            state = Some(after.to_words());
+            (words, registers)
+        }
     };
     Answer {
         words,
         registers: registers.to_words(),
         pool,
+        state,
         buffer,
         tables: kept,
     }
+}
+
+/// A call of the MUPS/16 unit: its words, and the state after it.
+fn of_mups16(call: UnitCall, state: State, tables: &mut Rc<Vec<u32>>) -> ([u32; 4], State) {
+    let done = |word: Result<u32, Refusal>| word.map(|value| (value, 0));
+    let mut after = state;
+    let answer = match call.operation {
+        Operation::Map => {
+            let (mapped, left) = mups16::map(state, tables, call.mapping());
+            after = left;
+            mapped.map(|mapped| (mapped.address, mapped.faults.number()))
+        }
+        Operation::LowWord => done(mups16::low_word(tables, call.a).map(u32::from)),
+        Operation::HighWord => done(mups16::high_word(state, tables, call.a).map(u32::from)),
+        Operation::FaultAddress => done(Ok(mups16::fault_address(state).into())),
+        Operation::SetIndex => {
+            after = mups16::set_table_index(state, call.a);
+            done(Ok(0))
+        }
+        Operation::SetEntry => {
+            let (entries, entry) = (Rc::make_mut(tables), mups16::Entry::unpack(call.b));
+            done(mups16::set_entry(entries, call.a, entry).map(|()| 0))
+        }
+    };
+    let words = match answer {
+        Ok((value, faults)) => [0, value, faults, 0],
+        Err(refusal) => [1, refusal.number(), 0, 0],
+    };
+    (words, after)
 }
 
 /// A reply with a number behind it.

@@ -4,17 +4,20 @@
 //!   compare calls PROBE [SEED] [CASES]        the single calls, by the program `probe`
 //!   compare pools PROBE [SEED] [CASES]        calls on pools of frames, by the program `probe`
 //!   compare passes PROBE [SEED] [CASES]       passes of the collector, by the program `probe`
+//!   compare mups16 PROBE [SEED] [CASES]       calls of the MUPS/16 unit, by the program `probe`
 //!   compare traces MMUTRACE [SEED] [TRACES]   whole traces, by the trace program
 //!   compare reports MMUREPORT [SEED] [FILES]  reports over trace files, by the report program
 //!   compare host HOST [SEED] [CASES]          the C calls, by tests/host
 //!   compare words PROBE HOST [SEED] [CASES]   the C calls that start and set, by tests/host, with
 //!                                             the calls over words, by the program `probe`
-//!   compare stand-in [FAULT]                  speaks as `probe`, with a fault in its passes or, by
-//!                                             the name None, without; lists them if none is named
+//!   compare stand-in [FAULT]                  speaks as `probe`, with a fault in its passes or its
+//!                                             MUPS/16 unit or, by the name None, without; lists
+//!                                             them if none is named
 //!
 //! Prints how often each outcome happened. An outcome fails that never happened or in which the
 //! programs differed. The last line is 'N passed, M failed'; the status is 0 where M is 0.
 
+mod alone;
 mod blocks;
 mod calls;
 mod cases;
@@ -25,6 +28,7 @@ mod exchange;
 mod expected;
 mod fault;
 mod host;
+mod mups16;
 mod outcome;
 mod passes;
 mod pools;
@@ -36,6 +40,7 @@ mod read_back;
 mod reports;
 mod request;
 mod stand_in;
+mod stand_ins;
 mod tally;
 mod traces;
 mod witness;
@@ -43,7 +48,8 @@ mod witness;
 use std::process::ExitCode;
 
 const SEED: u64 = 100;
-const USE: &str = "use: compare calls|pools|passes|traces|reports|host PROGRAM [SEED] [NUMBER]
+const USE: &str =
+    "use: compare calls|pools|passes|mups16|traces|reports|host PROGRAM [SEED] [NUMBER]
      compare words PROBE HOST [SEED] [NUMBER]
      compare stand-in [FAULT]";
 
@@ -73,6 +79,7 @@ fn compare() -> Result<bool, String> {
     match &words[0][..] {
         "calls" => calls::compare(program, seed, many(calls::CASES)?),
         "host" => host::compare(program, seed, many(host::CASES)?),
+        "mups16" => mups16::compare(program, seed, many(mups16::CASES)?),
         "passes" => passes::compare(program, seed, many(passes::CASES)?),
         "pools" => pools::compare(program, seed, many(pools::CASES)?),
         "reports" => reports::compare(program, seed, many(reports::FILES)?),

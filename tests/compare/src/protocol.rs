@@ -1,6 +1,8 @@
 //! The bytes of a request and of its answer.
 
+use crate::mups16::call::{UnitCall, KIND as MUPS16};
 use reference::heap::{Pool, BIT_NUMBERS};
+use reference::mups16::{State, STATE_WORDS};
 use reference::{Access, Registers, FIELDS};
 
 #[derive(Clone, Copy, Debug)]
@@ -31,6 +33,8 @@ pub enum Call {
     Tables,
     /// The request and its answer have a pool.
     OnPool(PoolCall),
+    /// The request and its answer have the state of the MUPS/16 unit.
+    Mups16(UnitCall),
 }
 
 #[derive(Clone, Copy, Debug, PartialEq, Eq)]
@@ -57,6 +61,7 @@ impl Call {
             Call::Setting { number, value } => [7, number, value, 0, 0],
             Call::Tables => [8, 0, 0, 0, 0],
             Call::OnPool(call) => call.words(),
+            Call::Mups16(call) => call.words(),
         }
     }
 
@@ -84,6 +89,7 @@ impl Call {
                 value: second,
             },
             8 => Call::Tables,
+            MUPS16 => Call::Mups16(UnitCall::from_words(words)?),
             _ => Call::OnPool(PoolCall::from_words(words)?),
         })
     }
@@ -140,6 +146,8 @@ pub struct Request {
     pub registers: [u32; FIELDS],
     /// None but in a call on a pool.
     pub pool: Option<Box<Pool>>,
+    /// None but in a call of the MUPS/16 unit.
+    pub state: Option<[u32; STATE_WORDS]>,
     pub buffer: Vec<u64>,
     /// An empty run keeps the table run as the last request left it.
     pub tables: Vec<u32>,
@@ -152,6 +160,7 @@ impl Request {
             call,
             registers: registers.to_words(),
             pool: None,
+            state: None,
             buffer,
             tables: Vec::new(),
         }
@@ -163,6 +172,25 @@ impl Request {
             pool: Some(Box::new(pool)),
             ..Request::without_run(Call::OnPool(call), registers, buffer)
         }
+    }
+
+    /// A call of the MUPS/16 unit that hands over no table run.
+    pub fn of_mups16(
+        call: UnitCall,
+        registers: Registers,
+        state: State,
+        buffer: Vec<u64>,
+    ) -> Request {
+        Request {
+            state: Some(state.to_words()),
+            ..Request::without_run(Call::Mups16(call), registers, buffer)
+        }
+    }
+
+    /// The state of a call of the MUPS/16 unit.
+    pub fn state(&self) -> State {
+        let words = self.state.expect("a call of the MUPS/16 unit has a state");
+        State::from_words(words)
     }
 
     /// The pool of a call on one.
@@ -177,6 +205,7 @@ impl Request {
         put_words(&mut bytes, &lengths);
         put_words(&mut bytes, &self.registers);
         put_pool(&mut bytes, self.pool.as_deref());
+        put_words(&mut bytes, self.state.as_ref().map_or(&[], |state| state));
         put_numbers(&mut bytes, &self.buffer);
         put_words(&mut bytes, &self.tables);
         bytes
@@ -185,11 +214,12 @@ impl Request {
     /// How many bytes follow the head of a request.
     pub fn rest_length(head: &[u8]) -> usize {
         let [kind, buffer, tables] = [0, 5, 6].map(|n| word_of(&head[4 * n..4 * n + 4]));
-        let pool = match kind {
+        let beside = match kind {
+            MUPS16 => STATE_BYTES,
             9.. => POOL_BYTES,
             _ => 0,
         };
-        4 * FIELDS + pool + 8 * buffer as usize + 4 * tables as usize
+        4 * FIELDS + beside + 8 * buffer as usize + 4 * tables as usize
     }
 
     /// A request from its head and what follows; none where there is no such call.
@@ -198,17 +228,18 @@ impl Request {
         let call = Call::from_words(std::array::from_fn(|n| head[n]))?;
         let (registers, mut rest) = rest.split_at(4 * FIELDS);
         let registers: Vec<u32> = registers.chunks_exact(4).map(word_of).collect();
-        let mut pool = None;
-        if let Call::OnPool(_) = call {
-            let (bytes, behind) = rest.split_at(POOL_BYTES);
-            pool = Some(Box::new(pool_of(bytes)));
-            rest = behind;
+        let (mut pool, mut state) = (None, None);
+        match call {
+            Call::OnPool(_) => pool = Some(Box::new(pool_of(part(&mut rest, POOL_BYTES)))),
+            Call::Mups16(_) => state = Some(state_of(part(&mut rest, STATE_BYTES))),
+            _ => {}
         }
         let (buffer, tables) = rest.split_at(8 * head[5] as usize);
         Some(Request {
             call,
             registers: std::array::from_fn(|n| registers[n]),
             pool,
+            state,
             buffer: buffer.chunks_exact(8).map(number_of).collect(),
             tables: tables.chunks_exact(4).map(word_of).collect(),
         })
@@ -224,6 +255,8 @@ pub struct Answer {
     pub registers: [u32; FIELDS],
     /// None but in the answer to a call on a pool.
     pub pool: Option<Box<Pool>>,
+    /// None but in the answer of the MUPS/16 unit.
+    pub state: Option<[u32; STATE_WORDS]>,
     pub buffer: Vec<u64>,
     /// Empty but where the table run was asked for.
     pub tables: Vec<u32>,
@@ -232,11 +265,9 @@ pub struct Answer {
 impl Answer {
     /// The bytes of the answer to a request, with so many words of a table run.
     pub fn byte_length(request: &Request, words: usize) -> usize {
-        let pool = match request.pool {
-            Some(_) => POOL_BYTES,
-            None => 0,
-        };
-        4 * (4 + FIELDS) + pool + 8 * request.buffer.len() + 4 * words
+        let pool = request.pool.as_ref().map_or(0, |_| POOL_BYTES);
+        let state = request.state.map_or(0, |_| STATE_BYTES);
+        4 * (4 + FIELDS) + pool + state + 8 * request.buffer.len() + 4 * words
     }
 
     pub fn to_bytes(&self) -> Vec<u8> {
@@ -244,6 +275,7 @@ impl Answer {
         put_words(&mut bytes, &self.words);
         put_words(&mut bytes, &self.registers);
         put_pool(&mut bytes, self.pool.as_deref());
+        put_words(&mut bytes, self.state.as_ref().map_or(&[], |state| state));
         put_numbers(&mut bytes, &self.buffer);
         put_words(&mut bytes, &self.tables);
         bytes
@@ -253,16 +285,16 @@ impl Answer {
     pub fn from_bytes(bytes: &[u8], request: &Request) -> Answer {
         let (head, mut tail) = bytes.split_at(4 * (4 + FIELDS));
         let head: Vec<u32> = head.chunks_exact(4).map(word_of).collect();
-        let pool = request.pool.as_ref().map(|_| {
-            let (pool, rest) = tail.split_at(POOL_BYTES);
-            tail = rest;
-            Box::new(pool_of(pool))
-        });
+        let pool = request.pool.as_ref();
+        let pool = pool.map(|_| Box::new(pool_of(part(&mut tail, POOL_BYTES))));
+        let state = request.state;
+        let state = state.map(|_| state_of(part(&mut tail, STATE_BYTES)));
         let (buffer, tables) = tail.split_at(8 * request.buffer.len());
         Answer {
             words: std::array::from_fn(|n| head[n]),
             registers: std::array::from_fn(|n| head[4 + n]),
             pool,
+            state,
             buffer: buffer.chunks_exact(8).map(number_of).collect(),
             tables: tables.chunks_exact(4).map(word_of).collect(),
         }
@@ -271,6 +303,19 @@ impl Answer {
 
 /// The first pfn, the size and the bits.
 const POOL_BYTES: usize = 4 + 4 + 8 * BIT_NUMBERS;
+
+const STATE_BYTES: usize = 4 * STATE_WORDS;
+
+/// Takes so many bytes off.
+fn part<'a>(bytes: &mut &'a [u8], length: usize) -> &'a [u8] {
+    let (part, rest) = bytes.split_at(length);
+    *bytes = rest;
+    part
+}
+
+fn state_of(bytes: &[u8]) -> [u32; STATE_WORDS] {
+    std::array::from_fn(|n| word_of(&bytes[4 * n..4 * n + 4]))
+}
 
 fn pool_of(bytes: &[u8]) -> Pool {
     Pool {
@@ -321,6 +366,7 @@ mod tests {
             },
             registers: std::array::from_fn(|n| n as u32),
             pool: None,
+            state: None,
             buffer: vec![0x1122_3344_5566_7788],
             tables: vec![0xAABB_CCDD],
         };
@@ -391,11 +437,44 @@ mod tests {
             words: [2, 1, 0, 3],
             registers: request.registers,
             pool: request.pool.clone(),
+            state: None,
             buffer: request.buffer.clone(),
             tables: Vec::new(),
         };
         let bytes = answer.to_bytes();
         assert_eq!(bytes.len(), Answer::byte_length(&request, 0));
         assert_eq!(Answer::from_bytes(&bytes, &request), answer);
+    }
+
+    #[test]
+    fn the_second_units_state_stands_between_the_registers_and_the_buffer() {
+        let call = UnitCall::from_words([15, 6, 0x0102_0304, 0x0506_0708, 2]);
+        let call = call.expect("there is such an operation");
+        assert_eq!((call.user, call.write), (false, true));
+        let state = State {
+            table_index: 31,
+            boot_mode: true,
+            fault_address: 0xFEDC,
+        };
+        let request = Request {
+            tables: vec![5, 6],
+            ..Request::of_mups16(call, Registers::default(), state, vec![0x31 << 56])
+        };
+        let bytes = request.to_bytes();
+        assert_eq!(bytes.len(), 4 * (8 + 11) + 12 + 8 + 8);
+        assert_eq!(bytes[..8], [0, 0, 0, 15, 0, 0, 0, 6]);
+        assert_eq!(bytes[8..20], [1, 2, 3, 4, 5, 6, 7, 8, 0, 0, 0, 2]);
+        let beside = [0, 0, 0, 31, 0, 0, 0, 1, 0, 0, 0xFE, 0xDC, 0x31];
+        assert_eq!(bytes[76..89], beside);
+        let (head, rest) = bytes.split_at(4 * HEAD_WORDS);
+        assert_eq!(Request::rest_length(head), rest.len());
+        let read = Request::from_bytes(head, rest).expect("there is such a call");
+        assert_eq!(read.to_bytes(), bytes);
+        assert_eq!(bytes.len() - 16 - 8, Answer::byte_length(&request, 0));
+        let answer = Answer::from_bytes(&bytes[16..104 - 8], &request);
+        assert_eq!(answer.state, request.state);
+        assert_eq!(answer.buffer, request.buffer);
+        assert_eq!(answer.to_bytes(), bytes[16..96]);
+        assert!(UnitCall::from_words([15, 1, 0, 0, 0]).is_none());
     }
 }

@@ -2,6 +2,7 @@
 
 use crate::comparison::Judges;
 use crate::protocol::{Answer, Request};
+use crate::random::Random;
 use crate::witness::Witness;
 
 pub trait Put {
@@ -30,4 +31,21 @@ pub trait PutJudged: Put {
 
     /// Between cases that need no earlier table run: the program may be started afresh.
     fn may_restart(&mut self);
+}
+
+/// Random cases: half of the number as they are put up to a total, and half in sequences.
+pub fn put_at_random(
+    to: &mut dyn PutJudged,
+    random: &mut Random,
+    number: usize,
+    at_random: fn(&mut dyn PutJudged, &mut Random, usize),
+    sequence: fn(&mut dyn PutJudged, &mut Random),
+) {
+    let total = to.count() + number / 2;
+    at_random(to, random, total);
+    let total = to.count() + number / 2;
+    while to.wants_more(total) {
+        to.may_restart();
+        sequence(to, random);
+    }
 }

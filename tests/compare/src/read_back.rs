@@ -223,6 +223,7 @@ mod tests {
             words: [0, value, 0, 0],
             registers: registers.to_words(),
             pool: None,
+            state: None,
             buffer: buffer.clone(),
             tables: Vec::new(),
         };

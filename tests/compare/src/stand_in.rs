@@ -1,20 +1,21 @@
-//! Speaks as the program `probe`, by the second program, with a fault in its passes where one is
-//! named. So a comparison can be tried where there is no other program.
+//! Speaks as the program `probe`, by a stand-in, with a fault where one is named. So a comparison
+//! can be tried where there is no other program.
 
-use crate::passes::stand_ins::{Fault, StandIn, ALL};
 use crate::protocol::{Request, HEAD_WORDS};
+use crate::stand_ins::{Faults, StandIn};
 use std::io::{self, BufReader, BufWriter, ErrorKind, Read, Write};
 
 /// Answers requests to the end of the input. Without a name, lists the faults.
 pub fn speak(name: Option<&str>) -> Result<bool, String> {
+    let faults = Faults::of_passes().chain(Faults::of_mups16());
     let Some(name) = name else {
-        for fault in ALL {
-            println!("{fault:?}");
-        }
+        faults.for_each(|faults| println!("{}", faults.name()));
         return Ok(true);
     };
-    let fault = Fault::named(name).ok_or(format!("{name} is no fault"))?;
-    answer_all(StandIn::new(fault)).map_err(|error| error.to_string())?;
+    let mut all = [Faults::NONE].into_iter().chain(faults);
+    let named = all.find(|faults| faults.name() == name);
+    let faults = named.ok_or(format!("{name} is no fault"))?;
+    answer_all(StandIn::new(faults)).map_err(|error| error.to_string())?;
     Ok(true)
 }
 

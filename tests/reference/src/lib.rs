@@ -1,6 +1,7 @@
 //! The memory unit of the ETRAX 100LX as document 01 tells it, with what requests of document 02
 //! ask for: the register read that gives the entry at SELECT, the report over traces, the heap of
-//! frames above the unit, the fault that says where the walk stopped, and the collector.
+//! frames above the unit, the fault that says where the walk stopped, and the collector. The memory
+//! unit of the MUPS/16 stands beside it.
 //!
 //! Each module is one heading of the paper, and quotes its words where a
 //! sentence decides.
@@ -15,6 +16,7 @@ pub mod heap;
 pub mod host;
 mod leaf;
 mod load;
+pub mod mups16;
 mod raw;
 mod reader;
 mod refusal;
@@ -41,8 +43,8 @@ pub use load::{is_of_page, load, slot_to_load};
 pub use raw::{raw_access, translate, Access, RawAnswer, Translation, EXCEPTION_MISS};
 pub use reader::{GuardedCall, Handed, Reader, Said, SETTINGS};
 pub use refusal::{
-    check_buffer, check_draw, check_identification, check_index, check_number, check_pool,
-    check_registers, check_served, check_setting, check_switch, check_tables, Refusal,
+    check_buffer, check_draw, check_entries, check_identification, check_index, check_number,
+    check_pool, check_registers, check_served, check_setting, check_switch, check_tables, Refusal,
 };
 pub use register_read::read_register;
 pub use register_write::write_register;

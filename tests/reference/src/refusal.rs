@@ -2,6 +2,7 @@
 
 use crate::address::SLOTS;
 use crate::heap::{Pool, MOST_FRAMES, PFNS};
+use crate::mups16::ENTRIES;
 use crate::registers::{fits, Registers, FIELD_BITS};
 
 /// The last of the guarded settings' numbers.
@@ -26,13 +27,15 @@ pub enum Refusal {
     Identification,
     /// A tree that a pass can't be made over.
     Tree,
+    /// Number 2 of the MUPS/16 unit.
+    EntryLength,
 }
 
 impl Refusal {
     pub fn number(self) -> u32 {
         match self {
             Refusal::RegisterField | Refusal::Pool => 1,
-            Refusal::BufferLength => 2,
+            Refusal::BufferLength | Refusal::EntryLength => 2,
             Refusal::TableLength => 3,
             Refusal::Draw => 4,
             Refusal::TestModeOrContext | Refusal::Identification => 5,
@@ -135,6 +138,14 @@ pub fn check_pool(pool: &Pool) -> Result<(), Refusal> {
     let end = u64::from(pool.first) + u64::from(pool.size);
     if pool.size == 0 || pool.size > MOST_FRAMES || end > u64::from(PFNS) {
         return Err(Refusal::Pool);
+    }
+    Ok(())
+}
+
+/// Number 2 of the MUPS/16 unit: "where its entry run isn't 8,192 long, and no other".
+pub fn check_entries(length: usize) -> Result<(), Refusal> {
+    if length != ENTRIES {
+        return Err(Refusal::EntryLength);
     }
     Ok(())
 }

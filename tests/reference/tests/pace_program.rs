@@ -34,10 +34,10 @@ fn frames(pages: u64) -> u64 {
 
 #[test]
 fn nothing_is_added_for_no_calls() {
-    for scenario in 0..9 {
+    for scenario in 0..11 {
         assert_eq!(sum(scenario, 0), Some(0), "{scenario}");
     }
-    assert_eq!(sum(9, 0), None);
+    assert_eq!(sum(11, 0), None);
 }
 
 #[test]
@@ -110,4 +110,31 @@ fn the_first_pass_alone_empties_the_64_slots() {
 fn so_it_is_with_as_many_pages_as_a_pool_has_frames() {
     assert_eq!(sum(8, 1), Some(round(4096) + 64));
     assert_eq!(sum(8, 3), Some(3 * round(4096) + 64));
+}
+
+/// The entry at a is 64a: mapped from 4,096 on, system and writable by the two bits below.
+#[test]
+fn maps_of_the_second_unit_add_addresses_and_faults() {
+    let map = |i: u64| {
+        let page = i % 256;
+        let at = 256 * (i % 32) + page;
+        let address = (64 * at) % 65_536 * 256 + page;
+        let (mapped, system, writable) = (at / 4096, at / 2048 % 2, at / 1024 % 2);
+        let write_violation = (1 - writable) * (i % 2);
+        address + (1 - mapped) + 2 * write_violation + 4 * system
+    };
+    let maps = |count: u64| -> u64 { (0..count).map(map).sum() };
+    assert_eq!(sum(9, 1), Some(1));
+    assert_eq!(sum(9, 2), Some(1 + 0x40_4001 + 3));
+    assert_eq!(sum(9, 256), Some(maps(256)));
+    assert_eq!(sum(9, 25_600), Some(100 * maps(256)));
+}
+
+#[test]
+fn entries_of_the_second_unit_are_read_as_they_are_set() {
+    let read = |i: u64| 1 + (i % 65_536 + 1) + (i / 65_536 % 8 + 1) + 1;
+    assert_eq!(sum(10, 1), Some(4));
+    assert_eq!(sum(10, 3), Some(4 + 5 + 6));
+    assert_eq!(sum(10, 70_000), Some((0..70_000).map(read).sum()));
+    assert_eq!(sum(10, 600_000), Some((0..600_000).map(read).sum()));
 }

@@ -40,6 +40,7 @@ pub fn answer_of(answer: &case::Answer) -> Answer {
         },
         registers: registers.try_into().expect("the registers are 44 bytes"),
         pool: None,
+        state: None,
         buffer: numbers_of_bytes(&answer.runs.buffer),
         tables: Vec::new(),
     }

@@ -150,6 +150,7 @@ mod tests {
             words,
             registers: registers.to_words(),
             pool: None,
+            state: None,
             buffer: vec![0x3F80_0000],
             tables: Vec::new(),
         };

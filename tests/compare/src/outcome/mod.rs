@@ -68,6 +68,7 @@ pub fn of(request: &Request, runs: Runs, expected: &Answer) -> Vec<String> {
         }
         Call::Tables => tables::of(runs.before),
         Call::OnPool(call) => panic!("{call:?} is put by the comparison of pools"),
+        Call::Mups16(call) => panic!("{call:?} is put by the comparison of the MUPS/16 unit"),
     }
 }
 

@@ -18,7 +18,7 @@ pub mod stand_ins;
 mod visit;
 mod words;
 
-use crate::put::PutJudged;
+use crate::put::{put_at_random, PutJudged};
 use crate::random::Random;
 use comparison::Comparison;
 
@@ -37,11 +37,5 @@ fn put(to: &mut dyn PutJudged, seed: u64, number: usize) {
     refusals::put(to, &mut random);
     grounds::put(to, &mut random);
     full::put(to, &mut random);
-    let total = to.count() + number / 2;
-    at_random::put(to, &mut random, total);
-    let total = to.count() + number / 2;
-    while to.wants_more(total) {
-        to.may_restart();
-        sequence::put(to, &mut random);
-    }
+    put_at_random(to, &mut random, number, at_random::put, sequence::put);
 }

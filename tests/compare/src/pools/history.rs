@@ -255,6 +255,7 @@ mod tests {
                 words: [words[0], words[1], 0, 0],
                 registers: request.registers,
                 pool: Some(Box::new(pool)),
+                state: None,
                 buffer: Vec::new(),
                 tables: Vec::new(),
             };

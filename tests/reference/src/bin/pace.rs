@@ -5,6 +5,7 @@
 
 use reference::collector::by_tables;
 use reference::heap::{by_words, new_pool, Pool};
+use reference::mups16::{self, Mapping, State};
 use reference::*;
 use std::io::{self, Error, Read, Write};
 
@@ -206,6 +207,60 @@ impl Heap {
     }
 }
 
+/// The MUPS/16 unit.
+struct SecondUnit {
+    state: State,
+    entries: Vec<u32>,
+}
+
+impl SecondUnit {
+    /// The entries count up by 64, so that every status comes.
+    fn prepared() -> SecondUnit {
+        let mut unit = SecondUnit {
+            state: State::default(),
+            entries: vec![0; mups16::ENTRIES],
+        };
+        for at in 0..mups16::ENTRIES as u32 {
+            unit.set_entry(at, 64 * at);
+        }
+        unit
+    }
+
+    /// The address and the faults that a user gets under a table index.
+    fn map(&mut self, index: u32, address: u16, write: bool) -> u64 {
+        self.state = mups16::set_table_index(self.state, index);
+        let mapping = Mapping {
+            address,
+            user: true,
+            write,
+        };
+        let (mapped, state) = mups16::map(self.state, &self.entries, mapping);
+        self.state = state;
+        match mapped {
+            Ok(mapped) => u64::from(mapped.address) + u64::from(mapped.faults.number()),
+            Err(refusal) => worth(Outcome::Refused(refusal)),
+        }
+    }
+
+    fn set_entry(&mut self, at: u32, entry: u32) -> u64 {
+        match mups16::set_entry(&mut self.entries, at, mups16::Entry::unpack(entry)) {
+            Ok(()) => 1,
+            Err(refusal) => worth(Outcome::Refused(refusal)),
+        }
+    }
+
+    fn set_and_read(&mut self, at: u32, entry: u32) -> u64 {
+        let read = |word: Result<u16, Refusal>| match word {
+            Ok(word) => u64::from(word) + 1,
+            Err(refusal) => worth(Outcome::Refused(refusal)),
+        };
+        self.set_entry(at, entry)
+            + read(mups16::low_word(&self.entries, at))
+            + read(mups16::high_word(self.state, &self.entries, at))
+            + read(Ok(mups16::fault_address(self.state)))
+    }
+}
+
 fn user_read(address: u32, draw: u32) -> Access {
     Access {
         address,
@@ -248,6 +303,11 @@ fn held_frame(i: u32) -> u32 {
     FIRST_PFN + 7 * (i % TAKEN) % TAKEN
 }
 
+/// An address whose page and offset are the same number, all 256 of them in turn.
+fn doubled_byte(i: u32) -> u16 {
+    (257 * (i % 256)) as u16
+}
+
 fn sum(count: u32, worth: impl FnMut(u32) -> u64) -> u64 {
     (0..count).map(worth).fold(0, u64::wrapping_add)
 }
@@ -282,7 +342,15 @@ fn sum_of(scenario: u32, count: u32) -> io::Result<u64> {
             let mut heap = Heap::with_all_mapped(unit);
             sum(count, |_| heap.collect_and_map(FRAMES))
         }
-        _ => return Err(Error::other("the scenario is 0 to 8")),
+        9 => {
+            let mut unit = SecondUnit::prepared();
+            sum(count, |i| unit.map(i % 32, doubled_byte(i), i % 2 == 1))
+        }
+        10 => {
+            let mut unit = SecondUnit::prepared();
+            sum(count, |i| unit.set_and_read(i % 8192, i % 524_288))
+        }
+        _ => return Err(Error::other("the scenario is 0 to 10")),
     })
 }
 

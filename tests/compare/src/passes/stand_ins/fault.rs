@@ -1,17 +1,6 @@
 //! The faults of the stand-ins.
 
-macro_rules! faults {
-    ($($name:ident),* $(,)?) => {
-        #[derive(Clone, Copy, Debug, PartialEq, Eq)]
-        pub enum Fault {
-            /// The right program.
-            None,
-            $($name),*
-        }
-
-        pub const ALL: &[Fault] = &[$(Fault::$name),*];
-    };
-}
+use crate::stand_ins::faults;
 
 faults! {
     // What is refused before the tree is looked at, and in which order.
@@ -210,12 +199,4 @@ faults! {
     LoadsCounted,
     ContextSet,
     SelectSet,
-}
-
-impl Fault {
-    /// The fault of this name.
-    pub fn named(name: &str) -> Option<Fault> {
-        let all = ALL.iter().copied().chain([Fault::None]);
-        all.into_iter().find(|fault| format!("{fault:?}") == name)
-    }
 }

@@ -79,6 +79,7 @@ impl Before {
             words: expected::words_of_outcome(line.outcome, line.loads),
             registers: unit.registers.to_words(),
             pool: None,
+            state: None,
             buffer: unit.buffer.to_vec(),
             tables: Vec::new(),
         };
