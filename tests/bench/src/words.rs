@@ -22,7 +22,7 @@ const SCENARIOS: [(&str, u32); 11] = [
     ("a pass twice over 80 pages and mapping them again", 16),
     ("a pass twice over 4,096 pages and mapping them again", 1),
     ("MUPS/16: table index set, address mapped", MANY),
-    ("MUPS/16: entry set, its words and fault address read", MANY),
+    ("MUPS/16: entry set, another one's words read", MANY),
 ];
 
 const MANY: u32 = 1 << 12;

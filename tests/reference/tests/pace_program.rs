@@ -130,11 +130,21 @@ fn maps_of_the_second_unit_add_addresses_and_faults() {
     assert_eq!(sum(9, 25_600), Some(100 * maps(256)));
 }
 
+/// The entry at 7i mod 8,192 was last set in this round over the 8,192 entries where it lies at or
+/// before the one that is set now, else in the round before.
 #[test]
-fn entries_of_the_second_unit_are_read_as_they_are_set() {
-    let read = |i: u64| 1 + (i % 65_536 + 1) + (i / 65_536 % 8 + 1) + 1;
-    assert_eq!(sum(10, 1), Some(4));
-    assert_eq!(sum(10, 3), Some(4 + 5 + 6));
+fn entries_of_the_second_unit_are_read_as_they_were_set() {
+    let entry = |i: u64, other: u64| match (i / 8192 * 8192 + other).cmp(&i) {
+        std::cmp::Ordering::Greater if i < 8192 => 64 * other,
+        std::cmp::Ordering::Greater => i / 8192 * 8192 + other - 8192,
+        _ => i / 8192 * 8192 + other,
+    };
+    let read = |i: u64| {
+        let e = entry(i, 7 * i % 8192) % 524_288;
+        1 + (e % 65_536 + 1) + (e / 65_536 + 1)
+    };
+    assert_eq!(sum(10, 1), Some(3));
+    assert_eq!(sum(10, 2), Some(3 + 3 + 64 * 7));
     assert_eq!(sum(10, 70_000), Some((0..70_000).map(read).sum()));
     assert_eq!(sum(10, 600_000), Some((0..600_000).map(read).sum()));
 }

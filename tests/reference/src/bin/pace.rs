@@ -249,15 +249,15 @@ impl SecondUnit {
         }
     }
 
-    fn set_and_read(&mut self, at: u32, entry: u32) -> u64 {
+    /// An entry is set, and the words of another are read.
+    fn set_and_read(&mut self, at: u32, entry: u32, other: u32) -> u64 {
         let read = |word: Result<u16, Refusal>| match word {
             Ok(word) => u64::from(word) + 1,
             Err(refusal) => worth(Outcome::Refused(refusal)),
         };
         self.set_entry(at, entry)
-            + read(mups16::low_word(&self.entries, at))
-            + read(mups16::high_word(self.state, &self.entries, at))
-            + read(Ok(mups16::fault_address(self.state)))
+            + read(mups16::low_word(&self.entries, other))
+            + read(mups16::high_word(self.state, &self.entries, other))
     }
 }
 
@@ -348,7 +348,9 @@ fn sum_of(scenario: u32, count: u32) -> io::Result<u64> {
         }
         10 => {
             let mut unit = SecondUnit::prepared();
-            sum(count, |i| unit.set_and_read(i % 8192, i % 524_288))
+            sum(count, |i| {
+                unit.set_and_read(i % 8192, i % 524_288, 7 * (i % 8192) % 8192)
+            })
         }
         _ => return Err(Error::other("the scenario is 0 to 10")),
     })
