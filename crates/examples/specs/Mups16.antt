@@ -3,12 +3,14 @@ use Prim.Native.Nat.{ℕ, _+_, _*_}
 use mathlib.Core.Bool.{Bool, true, false}
 use mathlib.Core.List.{List, [], _∷_, _++_}
 use lib.ListN.{set, replicate}
+use Rattle.mups16.specs.Answers.{refusalOf}
 use Rattle.mups16.specs.States.{indexOf, withIndex}
 use Rattle.mups16.specs.Map.{mapReply}
 use Rattle.mups16.specs.Read.{readLow, readHigh}
 use Rattle.mups16.specs.Set.{setAnswer, entriesAfterSet}
-use Rattle.mups16.specs.Histories.{historyOf, lastState}
-use Rattle.mups16.specs.Histories.Request.{ToMap, ToSetTableIndex, ToSetBootMode}
+use Rattle.mups16.specs.Histories.{lastState}
+use Rattle.mups16.specs.Requests.{historyOf}
+use Rattle.mups16.specs.Requests.Request.{ToMap, ToSetTableIndex, ToSetBootMode}
 use Rattle.mups16.specs.LastFault.{lastFault}
 use Rattle.mups16.specs.declared.State.{State}
 use Rattle.mups16.specs.declared.Answer.the-variants.{At, Word, Done, Refused}
@@ -49,6 +51,7 @@ maps =
     -- boot mode: no entry counts, nothing faults, and the fault address stays
     (mapReply full (kept 0 true 0x1234) 0x053a true true gives answered 0x80053a false false false (kept 0 true 0x1234))
     ∷ (mapReply (page 0) (kept 31 true 0x1234) 0xffff true true gives answered 0x80ffff false false false (kept 31 true 0x1234))
+    ∷ (mapReply full (kept 33 true 0x1234) 0x3a05 false false gives answered 0x803a05 false false false (kept 33 true 0x1234))
     -- mapped and writable: no fault
     ∷ (mapReply (page 5) (kept 0 false 0x1234) 0x053a true true gives answered 0x07323a false false false (kept 0 false 0x1234))
     -- each fault alone: mapped 0; a write where writable is 0; a user where system is 1
@@ -59,7 +62,7 @@ maps =
     ∷ (mapReply (page 4) (kept 0 false 0x1234) 0x053a true false gives answered 0x07323a false false false (kept 0 false 0x1234))
     ∷ (mapReply (page 7) (kept 0 false 0x1234) 0x053a false true gives answered 0x07323a false false false (kept 0 false 0x1234))
     -- all three together, two together, and an entry of 0
-    ∷ (mapReply (page 2) (kept 0 false 0x1234) 0x053a true true gives answered 0x07323a true true true (kept 0 false 0x053a))
+    ∷ (mapReply (page 2) (kept 32 false 0x1234) 0x053a true true gives answered 0x07323a true true true (kept 32 false 0x053a))
     ∷ (mapReply (page 6) (kept 0 false 0x1234) 0x053a true true gives answered 0x07323a false true true (kept 0 false 0x053a))
     ∷ (mapReply (page 5) (kept 0 false 0x1234) 0x3a05 false false gives answered 0x000005 true false false (kept 0 false 0x3a05))
     -- index 31 is the last table; a kept index of 32 counts as 0, and comes back as it went in
@@ -72,7 +75,7 @@ maps =
     ∷ (mapReply (one 5 0xFFF80732) (kept 0 false 0) 0x053a true true gives answered 0x07323a true true false (kept 0 false 0x053a))
     ∷ (mapReply full (kept 0 false 0) 0x053a true true gives answered 0xffff3a false false true (kept 0 false 0x053a))
     -- a run of another length is refused, in boot mode too
-    ∷ (mapReply (replicate 8191 0) (kept 0 false 7) 0x053a true true gives refused (kept 0 false 7))
+    ∷ (mapReply (replicate 8191 0) (kept 33 false 7) 0x053a true true gives refused (kept 33 false 7))
     ∷ (mapReply (replicate 8193 0) (kept 32 true 7) 0x053a true true gives refused (kept 32 true 7))
     ∷ []
 
@@ -91,6 +94,11 @@ reads =
     ∷ (readLow full 0 gives Word 0xffff)
     ∷ (readLow (replicate 8191 0) 0 gives Refused 2)
     ∷ (readHigh (replicate 8193 0) (kept 0 false 0) 0 gives Refused 2)
+    -- the number that each answer refuses with
+    ∷ (refusalOf (readLow full 0) gives 0)
+    ∷ (refusalOf (readLow (replicate 8191 0) 0) gives 2)
+    ∷ (refusalOf Done gives 0)
+    ∷ (refusalOf (mapReply full (kept 0 false 0) 0x053a true true .answer) gives 0)
     ∷ []
 
 unfoldable pub sets : List Example

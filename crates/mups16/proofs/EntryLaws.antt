@@ -1,13 +1,13 @@
--- Places and entries within their bounds, and one entry read after one is set. Assumes nothing.
+-- The run's length, and places, indexes, pages and offsets within their bounds. Assumes nothing.
 use Prim.Native.Nat.{ℕ, _^_, _<_}
 use mathlib.Core.Path.{_≡_}
 use mathlib.Core.Logic.{_≢_}
-use mathlib.Core.Bool.{true}
+use mathlib.Core.Bool.{true, false}
 use mathlib.Core.List.{List}
 use native.Mathlib.Omega.{arith}
 use lib.ListN.{length, length-set}
 use lib.Seq.{getD-set-same, getD-set-other}
-use borrow.Author.Tests.{eqb-true}
+use borrow.Author.Tests.{eqb-true, eq-eqb, ne-eqb}
 use Rattle.runs.specs.Bits.{bits}
 use Rattle.mups16.specs.Entries.{entriesFit, placeOf, entryAt, withEntry, pageOf}
 use Rattle.mups16.specs.States.{indexOf}
@@ -20,7 +20,11 @@ fits-length entries h = eqb-true (length entries) 8192 h
 
 pub length-fits : (entries : List ℕ) → length entries ≡ 8192 → entriesFit entries ≡ true
 unfolding entriesFit
-length-fits entries h = rw h
+length-fits entries h = eq-eqb (length entries) 8192 h
+
+pub length-wrong : (entries : List ℕ) → length entries ≢ 8192 → entriesFit entries ≡ false
+unfolding entriesFit
+length-wrong entries d = ne-eqb (length entries) 8192 d
 
 pub place-lt : (address : ℕ) → placeOf address < 8192
 unfolding placeOf
@@ -57,22 +61,3 @@ map-place-lt s address = omega (arith, index-lt s, page-lt address)
 
 pub map-place-in : (s : State) (address place : ℕ) → place ≡ mapPlace s address → place < 8192
 map-place-in s address place q = omega (arith, q, map-place-lt s address)
-
-pub entry-lt : (entries : List ℕ) (place : ℕ) → entryAt entries place < 2 ^ 19
-unfolding entryAt
-entry-lt entries place = omega arith
-
-pub at-same : (entries : List ℕ) (place e : ℕ) → entriesFit entries ≡ true → place < 8192
-    → entryAt (withEntry entries place e) place ≡ bits 18 0 e
-unfolding entryAt withEntry
-at-same entries place e f l =
-    let n = fits-length entries f in
-    rw (getD-set-same entries place (bits 18 0 e) 0 (omega arith)) (omega arith)
-
-pub at-other : (entries : List ℕ) (place other e : ℕ) → other ≢ place → entryAt (withEntry entries place e) other ≡ entryAt entries other
-unfolding entryAt withEntry
-at-other entries place other e d = rw (getD-set-other entries place other (bits 18 0 e) 0 d)
-
-pub fits-set : (entries : List ℕ) (place e : ℕ) → entriesFit (withEntry entries place e) ≡ entriesFit entries
-unfolding entriesFit withEntry
-fits-set entries place e = rw length-set

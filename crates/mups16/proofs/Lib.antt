@@ -3,10 +3,13 @@ pub mod EntryLaws
 pub mod MapLaws
 pub mod ReadLaws
 pub mod SetLaws
-pub mod AfterSet
 pub mod MapsAlike
+pub mod InBits
+pub mod Refused
+pub mod StateStays
 pub mod OwnTable
+pub mod AfterSet
 pub mod SetIsRead
 pub mod SetIsMapped
-pub mod Histories
+pub mod Requests
 pub mod LastFault

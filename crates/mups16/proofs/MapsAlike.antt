@@ -12,23 +12,23 @@ use Rattle.mups16.specs.declared.MapReply.{MapReply}
 use Rattle.mups16.proofs.Refusing.{given}
 
 -- a map's reply over a run that fits
-pub map-gave : (entries : List ℕ) (s : State) (address : ℕ) (user write : Bool) (reply : MapReply) → entriesFit entries ≡ true
-    → MapGives entries s address user write reply
-    → reply ≡ (let m = mappingOf entries s address user write in record { answer = At m; state = stateAfter s address m })
+pub map-gave : (entries : List ℕ) (s : State) (virtual : ℕ) (user write : Bool) (reply : MapReply) → entriesFit entries ≡ true
+    → MapGives entries s virtual user write reply
+    → reply ≡ (let m = mappingOf entries s virtual user write in record { answer = At m; state = stateAfter s virtual m })
 unfolding mapReply
-map-gave entries s address user write reply fits g = g .reply-is ∙ given entries _ _ fits
+map-gave entries s virtual user write reply fits g = g .reply-is ∙ given entries _ _ fits
 
 module _ (s : State) (a b : List ℕ) where
-  pub maps-alike : entriesFit a ≡ true → entriesFit b ≡ true → (address : ℕ) (user write : Bool)
-      → mappingOf a s address user write ≡ mappingOf b s address user write → (r q : MapReply)
-      → MapGives a s address user write r → MapGives b s address user write q → r ≡ q
-  maps-alike a-fits b-fits address user write same r q rg qg =
-      map-gave a s address user write r a-fits rg
-      ∙ ap (λ (m : Mapping). record { answer = At m; state = stateAfter s address m }) same
-      ∙ sym (map-gave b s address user write q b-fits qg)
+  pub maps-alike : entriesFit a ≡ true → entriesFit b ≡ true → (virtual : ℕ) (user write : Bool)
+      → mappingOf a s virtual user write ≡ mappingOf b s virtual user write → (r q : MapReply)
+      → MapGives a s virtual user write r → MapGives b s virtual user write q → r ≡ q
+  maps-alike a-fits b-fits virtual user write same r q rg qg =
+      map-gave a s virtual user write r a-fits rg
+      ∙ ap (λ (m : Mapping). record { answer = At m; state = stateAfter s virtual m }) same
+      ∙ sym (map-gave b s virtual user write q b-fits qg)
 
-  pub same-entry : (address : ℕ) (user write : Bool) → entryAt a (mapPlace s address) ≡ entryAt b (mapPlace s address)
-      → mappingOf a s address user write ≡ mappingOf b s address user write
+  pub same-entry : (virtual : ℕ) (user write : Bool) → entryAt a (mapPlace s virtual) ≡ entryAt b (mapPlace s virtual)
+      → mappingOf a s virtual user write ≡ mappingOf b s virtual user write
   unfolding mappingOf
-  same-entry address user write =
-      ap (λ (e : ℕ). cond (s .«boot_mode») (bootMapping address) (entryMapping e address user write))
+  same-entry virtual user write =
+      ap (λ (e : ℕ). cond (s .«boot_mode») (bootMapping virtual) (entryMapping e virtual user write))

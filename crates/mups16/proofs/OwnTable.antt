@@ -10,13 +10,13 @@ use Rattle.mups16.proofs.MapsAlike.{maps-alike, same-entry}
 
 pub own-table : OwnTable
 unfolding OwnTable SameTable MapsAlike mapPlace indexOf entryAt
-own-table s a b a-long b-long same address user write =
-    maps-alike s a b (length-fits a a-long) (length-fits b b-long) address user write
-    (same-entry s a b address user write (same (virtualPage address) (page-lt address)))
+own-table s a b a-long b-long same virtual user write =
+    maps-alike s a b (length-fits a a-long) (length-fits b b-long) virtual user write
+    (same-entry s a b virtual user write (same (virtualPage virtual) (page-lt virtual)))
 
 pub boot-none : BootNone
 unfolding BootNone MapsAlike
-boot-none s a b a-long b-long boot address user write =
-    maps-alike s a b (length-fits a a-long) (length-fits b b-long) address user write
-    (sym (boot-made a s address user write boot (bootMapping address) refl)
-    ∙ boot-made b s address user write boot (bootMapping address) refl)
+boot-none s a b a-long b-long boot virtual user write =
+    maps-alike s a b (length-fits a a-long) (length-fits b b-long) virtual user write
+    (sym (boot-made a s virtual user write boot (bootMapping virtual) refl)
+    ∙ boot-made b s virtual user write boot (bootMapping virtual) refl)

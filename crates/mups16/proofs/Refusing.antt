@@ -19,19 +19,16 @@ told {A} answer entries accepted refused a r = by-test (entriesFit entries)
     by-test true = a
     by-test false = r
 
-pub accepted-fits : (entries : List ℕ) → refusal entries ≡ 0 → entriesFit entries ≡ true
-unfolding refusal
-accepted-fits entries h = by-test (entriesFit entries) h
-  where
-    by-test : (b : Bool) → _≡_ {A = ℕ} (cond b 0 2) 0 → b ≡ true
-    by-test true e = refl
-    by-test false e = absurd (omega arith)
-
 -- what a call gives over a run that fits
 pub given : {A : Type 0} (entries : List ℕ) (accepted refused : A) → entriesFit entries ≡ true
     → byEntries entries accepted refused ≡ accepted
 unfolding byEntries
 given entries accepted refused h = rw h
+
+pub not-given : {A : Type 0} (entries : List ℕ) (accepted refused : A) → entriesFit entries ≡ false
+    → byEntries entries accepted refused ≡ refused
+unfolding byEntries
+not-given entries accepted refused h = rw h
 
 -- the same by the test t that the code makes
 module _ (entries : List ℕ) (t : Bool) (tq : t ≡ entriesFit entries) where
@@ -42,5 +39,4 @@ module _ (entries : List ℕ) (t : Bool) (tq : t ≡ entriesFit entries) where
   when-accepted accepted refused x h q = q ∙ sym (given entries accepted refused (fits-now h))
 
   pub when-refused : {A : Type 0} (accepted refused x : A) → not t ≡ true → x ≡ refused → x ≡ byEntries entries accepted refused
-  unfolding byEntries
-  when-refused accepted refused x h q = q ∙ sym (rw (sym tq ∙ not-true t h))
+  when-refused accepted refused x h q = q ∙ sym (not-given entries accepted refused (sym tq ∙ not-true t h))

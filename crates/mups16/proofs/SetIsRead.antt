@@ -1,57 +1,38 @@
 -- What is set is read. Assumes nothing.
 use Prim.Native.Nat.{ℕ, _+_, _*_}
-use mathlib.Core.Path.{_≡_, refl, sym, ap, _∙_}
-use mathlib.Core.Logic.{_≢_}
-use mathlib.Core.Bool.{true}
+use mathlib.Core.Path.{_≡_, sym, ap, _∙_}
 use mathlib.Core.List.{List}
-use native.Mathlib.Omega.{arith}
+use lib.ListN.{length}
 use Rattle.runs.specs.Bits.{bits}
-use Rattle.mups16.specs.Entries.{entriesFit, placeOf, entryAt, pageOf}
-use Rattle.mups16.specs.States.{indexOf}
-use Rattle.mups16.specs.Read.{lowWord, highWord, readLow, readHigh, ReadLowGives, ReadHighGives}
+use Rattle.mups16.specs.InBits.{InBits, AcceptedInBits}
 use Rattle.mups16.specs.SetIsRead.{SetIsRead}
-use Rattle.mups16.specs.declared.State.{State}
 use Rattle.mups16.specs.declared.Answer.{Answer}
 use Rattle.mups16.specs.declared.Answer.the-variants.{Word}
-use Rattle.mups16.proofs.Refusing.{given}
-use Rattle.mups16.proofs.AfterSet.{before-fits, after-fits, set-here, set-elsewhere}
-
--- the words of a whole entry's number are those of its 19 bits
-low-of-bits : (e : ℕ) → lowWord (bits 18 0 e) ≡ bits 15 0 e
-unfolding lowWord pageOf
-low-of-bits e = omega arith
-
-high-of-bits : (s : State) (e : ℕ) → highWord (indexOf s) (bits 18 0 e) ≡ 256 * bits 4 0 (s .«table_index») + bits 18 16 e
-unfolding highWord indexOf
-high-of-bits s e = omega arith
-
--- a read of a run that fits, by the entry that stands there
-module _ (entries : List ℕ) (at e : ℕ) (fits : entriesFit entries ≡ true) (q : entryAt entries (placeOf at) ≡ e) (answer : Answer) where
-  low-gave : ReadLowGives entries at answer → answer ≡ Word (lowWord e)
-  unfolding readLow
-  low-gave g = g .answer-is ∙ given entries _ _ fits ∙ ap (λ (n : ℕ). Word (lowWord n)) q
-
-  high-gave : (s : State) → ReadHighGives entries s at answer → answer ≡ Word (highWord (indexOf s) e)
-  unfolding readHigh
-  high-gave s g = g .answer-is ∙ given entries _ _ fits ∙ ap (λ (n : ℕ). Word (highWord (indexOf s) n)) q
+use Rattle.mups16.proofs.InBits.{low-of-bits, high-of-bits, accepted-in-bits}
+use Rattle.mups16.proofs.AfterSet.{after-long, set-here, set-elsewhere}
 
 pub set-is-read : SetIsRead
-unfolding SetIsRead placeOf
-set-is-read before after address e answer gave accepted s at = record {
-  low-is = λ q low g. low-gave after at (bits 18 0 e) fit (here q) low g ∙ ap Word (low-of-bits e);
-  high-is = λ q high g. high-gave after at (bits 18 0 e) fit (here q) high s g ∙ ap Word (high-of-bits s e);
-  other-low = λ d old new og ng. low-gave after at _ fit (there d) new ng ∙ sym (low-gave before at _ old-fit refl old og);
-  other-high = λ d old new og ng. high-gave after at _ fit (there d) new s ng ∙ sym (high-gave before at _ old-fit refl old s og);
+unfolding SetIsRead AcceptedInBits
+set-is-read before after set-at e answer gave long s at = record {
+  low-is = λ q low g. new .low-is at low g ∙ ap low-word (set-here before after set-at e answer gave long _ q) ∙ ap Word (low-of-bits e);
+  high-is = λ q high g.
+      new .high-is s at high g
+      ∙ ap high-word (set-here before after set-at e answer gave long _ q)
+      ∙ ap Word (high-of-bits (bits 4 0 (s .«table_index»)) e);
+  other-low = λ d was is og ng.
+      new .low-is at is ng ∙ ap low-word (set-elsewhere before after set-at e answer gave long _ d) ∙ sym (old .low-is at was og);
+  other-high = λ d was is og ng.
+      new .high-is s at is ng ∙ ap high-word (set-elsewhere before after set-at e answer gave long _ d) ∙ sym (old .high-is s at was og);
 }
   where
-    fit : entriesFit after ≡ true
-    fit = after-fits before after address e answer gave accepted
+    old : InBits before
+    old = accepted-in-bits before long
 
-    old-fit : entriesFit before ≡ true
-    old-fit = before-fits before after address e answer gave accepted
+    new : InBits after
+    new = accepted-in-bits after (after-long before after set-at e answer gave long)
 
-    here : bits 12 0 at ≡ bits 12 0 address → entryAt after (placeOf at) ≡ bits 18 0 e
-    here = set-here before after address e answer gave accepted (placeOf at)
+    low-word : (word : ℕ) → Answer
+    low-word word = Word (bits 15 0 word)
 
-    there : bits 12 0 at ≢ bits 12 0 address → entryAt after (placeOf at) ≡ entryAt before (placeOf at)
-    there = set-elsewhere before after address e answer gave accepted (placeOf at)
+    high-word : (word : ℕ) → Answer
+    high-word word = Word (256 * bits 4 0 (s .«table_index») + bits 18 16 word)

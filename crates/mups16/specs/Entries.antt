@@ -14,8 +14,8 @@ unfoldable pub entriesFit : (entries : List ℕ) → Bool
 entriesFit entries = eqb (length entries) ENTRIES
 
 -- "An entry address above 8,191 keeps its low 13 bits."
-unfoldable pub placeOf : (address : ℕ) → ℕ
-placeOf address = bits 12 0 address
+unfoldable pub placeOf : (at : ℕ) → ℕ
+placeOf at = bits 12 0 at
 
 -- "An entry's bits 18 to 16 are mapped, system, writable (our order), higher ones read and write as 0": the entry at a place
 unfoldable pub entryAt : (entries : List ℕ) (place : ℕ) → ℕ

@@ -11,25 +11,25 @@ use Rattle.mups16.specs.declared.Mapping.{Mapping}
 use Rattle.mups16.specs.declared.Answer.{Answer}
 use Rattle.mups16.specs.declared.Answer.the-variants.{At, Word, Done, Refused}
 
--- one of the three truth values holds
+-- one of the three truth values holds; told here again, so that a wrong definition elsewhere shows
 unfoldable pub anyFault : Mapping → Bool
 anyFault m = m .«no_mapping» || m .«write_violation» || m .«protection_violation»
 
 -- a map's virtual address where its answer has a fault, else the address of the fault before
-unfoldable pub faultIn : Answer → (address before : ℕ) → ℕ
-faultIn (At m) address before = cond (anyFault m) address before
-faultIn (Word value) address before = before
-faultIn Done address before = before
-faultIn (Refused number) address before = before
+unfoldable pub faultIn : Answer → (virtual before : ℕ) → ℕ
+faultIn (At m) virtual before = cond (anyFault m) virtual before
+faultIn (Word value) virtual before = before
+faultIn Done virtual before = before
+faultIn (Refused number) virtual before = before
 
 -- told by the answers, and not by any state
 unfoldable pub faultBy : Event → (before : ℕ) → ℕ
-faultBy (Map entries address user write reply) before = faultIn (reply .answer) address before
-faultBy (ReadLow entries address answer) before = before
-faultBy (ReadHigh entries address answer) before = before
+faultBy (Map entries virtual user write reply) before = faultIn (reply .answer) virtual before
+faultBy (ReadLow entries at answer) before = before
+faultBy (ReadHigh entries at answer) before = before
 faultBy (FaultAddress address) before = before
 faultBy (SetTableIndex index after) before = before
-faultBy (SetEntry entries address e after answer) before = before
+faultBy (SetEntry entries at e after answer) before = before
 faultBy (SetBootMode mode) before = before
 
 -- the virtual address of the last map of a history that had a fault, or the first one where none had

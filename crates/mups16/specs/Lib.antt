@@ -5,8 +5,12 @@ pub mod Faults
 pub mod Map
 pub mod Read
 pub mod Set
+pub mod InBits
+pub mod Refused
+pub mod StateStays
 pub mod OwnTable
 pub mod SetIsRead
 pub mod SetIsMapped
 pub mod Histories
+pub mod Requests
 pub mod LastFault

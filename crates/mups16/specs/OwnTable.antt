@@ -17,7 +17,7 @@ SameTable index a b =
 -- every map gives the same over both runs: address, faults and the state after it
 unfoldable pub MapsAlike : (a b : List ℕ) → State → Type 0
 MapsAlike a b s =
-    (address : ℕ) (user write : Bool) (r q : MapReply) → MapGives a s address user write r → MapGives b s address user write q → r ≡ q
+    (virtual : ℕ) (user write : Bool) (r q : MapReply) → MapGives a s virtual user write r → MapGives b s virtual user write q → r ≡ q
 
 unfoldable pub OwnTable : Type 0
 OwnTable =

@@ -26,6 +26,8 @@ pub struct Mapping {
     pub protection_violation: bool,
 }
 
+// What a call answers: a map an address, a read of an entry a word, a set of an entry that it is done; each of them a refusal's number
+// where the run is not as long as it must be.
 pub enum Answer {
     At(Mapping),
     Word(u16),

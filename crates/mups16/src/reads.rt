@@ -9,7 +9,7 @@ use crate::entries::index_of;
 use crate::entries::page_of;
 use crate::entries::place_of;
 
-// What the table index counts in the high word: it is the upper byte.
+// The table index is the upper byte of the high word: there it counts 256.
 const INDEX: u32 = 1 << 8;
 
 // Operation 2: reads bits 15 to 0 of an entry, its physical page.

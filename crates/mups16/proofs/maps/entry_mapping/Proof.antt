@@ -27,8 +27,8 @@ is-system-requires : tie.Need-is-system-requires
 is-system-requires c κs = search needs
 
 returns : tie.Need-returns
-returns c = mapping-by _ _ _ _ _ _ (c .before .before .before .before .page-of .ensures) (c .before .before .before .offset .ensures) _ (c .before .before .is-mapped .ensures) _ (c .before .is-writable .ensures)
-    _ (c .is-system .ensures)
+returns c = mapping-by _ _ _ _ _ _ (c .before .before .before .before .page-of .ensures) (c .before .before .before .offset .ensures)
+    _ (c .before .before .is-mapped .ensures) _ (c .before .is-writable .ensures) _ (c .is-system .ensures)
 
 pub entry-mapping-spec : {M : Type 1} → statement M
 entry-mapping-spec =

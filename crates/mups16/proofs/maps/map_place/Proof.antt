@@ -15,7 +15,8 @@ virtual-page-requires : tie.Need-virtual-page-requires
 virtual-page-requires c κs = search needs
 
 add-result : tie.Need-add-result
-add-result c = omega (arith, index-in _ _ (c .before .index-of .ensures), c .virtual-page .ensures, page-lt (c .before .before .args .virtual-address))
+add-result c =
+    omega (arith, index-in _ _ (c .before .index-of .ensures), c .virtual-page .ensures, page-lt (c .before .before .args .virtual-address))
 
 returns : tie.Need-returns
 unfolding mapPlace

@@ -1,8 +1,9 @@
 -- Whatever is asked, there is a history in which each call keeps its promise. Assumes nothing.
 use mathlib.Core.Path.{_≡_, refl, ap₂}
 use mathlib.Core.List.{List, [], _∷_, map}
-use Rattle.mups16.specs.Histories.{Kept, stateLeft, KeptThroughout, Request, requestOf, eventOf, historyOf, EveryHistory}
-use Rattle.mups16.specs.Histories.Request.{ToMap, ToReadLow, ToReadHigh, ToReadFault, ToSetTableIndex, ToSetEntry, ToSetBootMode}
+use Rattle.mups16.specs.Histories.{Kept, stateLeft, KeptThroughout}
+use Rattle.mups16.specs.Requests.{Request, requestOf, eventOf, historyOf, EveryHistory}
+use Rattle.mups16.specs.Requests.Request.{ToMap, ToReadLow, ToReadHigh, ToReadFault, ToSetTableIndex, ToSetEntry, ToSetBootMode}
 use Rattle.mups16.specs.declared.State.{State}
 use Rattle.mups16.proofs.MapLaws.{map-gives}
 use Rattle.mups16.proofs.ReadLaws.{low-gives, high-gives}
@@ -10,23 +11,23 @@ use Rattle.mups16.proofs.SetLaws.{set-gives}
 
 each-kept : (s : State) (q : Request) → Kept s (eventOf s q)
 unfolding Kept eventOf
-each-kept s (ToMap entries address user write) = map-gives entries s address user write _ refl
-each-kept s (ToReadLow entries address) = low-gives entries address _ refl
-each-kept s (ToReadHigh entries address) = high-gives entries address s _ refl
+each-kept s (ToMap entries virtual user write) = map-gives entries s virtual user write _ refl
+each-kept s (ToReadLow entries at) = low-gives entries at _ refl
+each-kept s (ToReadHigh entries at) = high-gives entries at s _ refl
 each-kept s ToReadFault = record { address-is = refl }
 each-kept s (ToSetTableIndex index) = record { state-is = refl }
-each-kept s (ToSetEntry entries address e) = set-gives entries address e _ _ refl refl
+each-kept s (ToSetEntry entries at e) = set-gives entries at e _ _ refl refl
 each-kept s (ToSetBootMode mode) = tt
 
 -- each event is that of its request
 of-its-request : (s : State) (q : Request) → requestOf (eventOf s q) ≡ q
 unfolding requestOf eventOf
-of-its-request s (ToMap entries address user write) = refl
-of-its-request s (ToReadLow entries address) = refl
-of-its-request s (ToReadHigh entries address) = refl
+of-its-request s (ToMap entries virtual user write) = refl
+of-its-request s (ToReadLow entries at) = refl
+of-its-request s (ToReadHigh entries at) = refl
 of-its-request s ToReadFault = refl
 of-its-request s (ToSetTableIndex index) = refl
-of-its-request s (ToSetEntry entries address e) = refl
+of-its-request s (ToSetEntry entries at e) = refl
 of-its-request s (ToSetBootMode mode) = refl
 
 all-asked : (s : State) (requests : List Request) → map requestOf (historyOf s requests) ≡ requests
