@@ -1,7 +1,6 @@
 # shellcheck shell=sh disable=SC2034,SC2154
 # Shared by the scripts of this folder, each of which runs a program of the repository and has it built first where
 # needed. A script sets `bin` to this folder, calls describe, looks at its arguments, calls ready and runs the program.
-# The two trace programs have one script between them, trace.sh, and so have the two report programs, report.sh.
 # What a script says goes to standard error, and status 2 says that it refused. Closed, standard error is /dev/null.
 true 9>&2 || exec 2>/dev/null
 root=$(dirname "$bin")
@@ -21,7 +20,7 @@ describe() {
         sources="$package/Cargo.toml $package/Cargo.lock $package/src"
     else
         tool=rt target=target lock_file=bin/build.sh usual="two minutes"
-        case $name in mmureport*) usual="three minutes" ;; esac
+        [ "$name" = mmutrace ] || usual="three minutes"
         program=$target/bin/$name
         sources="crates crates.txt"
     fi

@@ -50,7 +50,7 @@ static bool set_up(void)
     put_table_word(PROGRAM, MMU_PRESENT | DIRECTORY);
     put_table_word(mmu_directory_index(DIRECTORY, PAGE), MMU_PRESENT | TABLE);
     put_table_word(mmu_leaf_index(TABLE, PAGE), leaf);
-    return accepted("start", mmu_start(unit.registers, sizeof unit.registers, unit.buffer, sizeof unit.buffer, MMU_EDITION_PLAIN)) &&
+    return accepted("start", mmu_start(unit.registers, sizeof unit.registers, unit.buffer, sizeof unit.buffer)) &&
            set("CONTEXT 5", MMU_CONTEXT, PROGRAM) &&
            set("CTRL 7", MMU_CTRL, MMU_INV_EXC | MMU_ACC_EXC | MMU_WE_EXC) &&
            set("ENABLE 1", MMU_ENABLE, 1);

@@ -19,7 +19,7 @@ from types import SimpleNamespace
 RUN = [POINTER(c_uint8), c_size_t]
 ACCESS = [c_uint32, c_bool, c_bool, c_uint32]  # address, user, write, draw
 CALLS = {
-    "mmu_start": 2 * RUN + [c_uint32],  # edition
+    "mmu_start": 2 * RUN,
     "mmu_guarded_setting": RUN + [c_uint32, c_uint32],  # number, value
     "mmu_raw_access": 2 * RUN + ACCESS,
     "mmu_served_access": 3 * RUN + ACCESS,
@@ -27,10 +27,9 @@ CALLS = {
 }
 
 # Names of include/mmu.h, without their MMU_: the library has none of them.
-REGISTER_BYTES, BUFFER_BYTES, TABLE_BYTES_MAX = 48, 512, 65536
+REGISTER_BYTES, BUFFER_BYTES, TABLE_BYTES_MAX = 44, 512, 65536
 PAGE_BYTES, DIRECTORY_WORDS, TABLE_WORDS, GLOBAL_ROOT = 8192, 512, 1024, 63
 CTRL, ENABLE, CONTEXT = 1, 2, 5
-EDITION_PLAIN = 1
 WE_EXC, ACC_EXC, INV_EXC = 1, 2, 4
 AT_SELECT, AT_TLB_HI, AT_CAUSE = 24, 28, 40
 PRESENT, VALID, WE = 0x80000000, 0x40000000, 0x10000000
@@ -105,7 +104,7 @@ class Unit:
         put_word(self.tables, 4 * PROGRAM, PRESENT | DIRECTORY)
         put_word(self.tables, 4 * DIRECTORY_INDEX, PRESENT | TABLE)
         put_word(self.tables, 4 * LEAF_INDEX, LEAF)
-        self.accepted("start", self.call("mmu_start", [self.registers, self.buffer], EDITION_PLAIN))
+        self.accepted("start", self.call("mmu_start", [self.registers, self.buffer]))
         self.accepted("CONTEXT 5", self.set(CONTEXT, PROGRAM))
         self.accepted("CTRL 7", self.set(CTRL, INV_EXC | ACC_EXC | WE_EXC))
         self.accepted("ENABLE 1", self.set(ENABLE, 1))

@@ -13,10 +13,10 @@ extern "C" {
 
 /* The five calls. */
 
-/* Makes all registers 0 but the edition, which is the one asked for, and every slot empty (its set's number as vpn15, page_id 63, all else
- * 0), whatever the bytes held before. Bytes of zero are no empty buffer: each buffer needs this call before all others. */
+/* Makes all registers 0 and every slot empty (its set's number as vpn15, page_id 63, all else 0), whatever the bytes held before. Bytes of
+ * zero are no empty buffer: each buffer needs this call before all others. */
 uint64_t mmu_start(uint8_t *registers, size_t registers_len,
-                   uint8_t *buffer, size_t buffer_len, uint32_t edition);
+                   uint8_t *buffer, size_t buffer_len);
 
 /* Gives one of the registers KSEG to CONTEXT a value that it takes; CONTEXT takes 0 to 62. */
 uint64_t mmu_guarded_setting(uint8_t *registers, size_t registers_len,
@@ -27,11 +27,10 @@ uint64_t mmu_raw_access(uint8_t *registers, size_t registers_len,
                         const uint8_t *buffer, size_t buffer_len,
                         uint32_t address, bool user, bool write, uint32_t draw);
 
-/* One access that on a miss walks the tables, loads the leaf and tries again; it may write the registers and one slot. In edition 2 a write
- * that gets a mapped address also sets the written mark of the page's leaf, and empties every slot that the tables do not back. */
+/* One access that on a miss walks the tables, loads the leaf and tries again; it may write the registers and one slot. */
 uint64_t mmu_served_access(uint8_t *registers, size_t registers_len,
                            uint8_t *buffer, size_t buffer_len,
-                           uint8_t *tables, size_t tables_len,
+                           const uint8_t *tables, size_t tables_len,
                            uint32_t address, bool user, bool write, uint32_t draw);
 
 /* Writes one word of the tables, and empties every slot that they no longer back. */
@@ -42,7 +41,7 @@ uint64_t mmu_table_store(const uint8_t *registers, size_t registers_len,
 
 /* The lengths of the runs. */
 
-#define MMU_REGISTER_BYTES 48     /* The registers have twelve words of four bytes. */
+#define MMU_REGISTER_BYTES 44     /* The registers have eleven words of four bytes. */
 #define MMU_BUFFER_BYTES 512      /* The buffer has 64 slots of eight bytes. */
 #define MMU_TABLE_BYTES_MIN 4096  /* The tables have at least this many bytes. */
 #define MMU_TABLE_BYTES_MAX 65536 /* The tables have at most this many bytes. */
@@ -80,12 +79,6 @@ uint64_t mmu_table_store(const uint8_t *registers, size_t registers_len,
 #define MMU_AT_TLB_LO 32   /* These are the 23 bits last written to TLB_LO. */
 #define MMU_AT_TEST 36     /* One bit switches the test mode on. */
 #define MMU_AT_CAUSE 40    /* The last exception's value stands in bits 4 to 1 and its write bit in bit 0. */
-#define MMU_AT_EDITION 44  /* The edition is 1 or 2, and mmu_start alone sets it. */
-
-/* The editions that mmu_start takes. */
-
-#define MMU_EDITION_PLAIN 1u  /* No access changes the tables. */
-#define MMU_EDITION_MARKED 2u /* A served write marks its page's leaf as written. */
 
 /* The bits of CTRL. */
 
@@ -99,7 +92,6 @@ uint64_t mmu_table_store(const uint8_t *registers, size_t registers_len,
 #define MMU_VALID 0x40000000u   /* The leaf's page is valid. */
 #define MMU_KERNEL 0x20000000u  /* The leaf's page is the kernel's. */
 #define MMU_WE 0x10000000u      /* The leaf's page may be written. */
-#define MMU_WRITTEN 0x08000000u /* The leaf's page was written to: edition 2 sets this mark, and nothing clears it but a store. */
 
 /* The kinds of exceptions and faults, the first three added up where they come together; only a served access gives the last two. */
 
@@ -119,8 +111,7 @@ uint64_t mmu_table_store(const uint8_t *registers, size_t registers_len,
 /* The numbers of refusals, after each of them the calls that give it. A call gives the first that applies, from the top. Numbers from 8 on
  * belong to other parts of the unit, and no call of this header gives them. */
 
-#define MMU_REFUSED_REGISTERS 1u /* Every call: the registers are not 48 bytes, one exceeds its bits, or the edition is neither 1 nor 2; a
-                                  * start judges only the length and the edition that it is asked for. */
+#define MMU_REFUSED_REGISTERS 1u /* Every call: the registers are not 44 bytes, or one exceeds its bits; a start judges only the length. */
 #define MMU_REFUSED_BUFFER 2u    /* Start, both accesses, store: the buffer is not 512 bytes. */
 #define MMU_REFUSED_TABLES 3u    /* Served access, store: the tables are too short, too long, or no multiple of 4,096 bytes. */
 #define MMU_REFUSED_DRAW 4u      /* Both accesses: the draw is above 3. */

@@ -90,7 +90,7 @@ static uint64_t make_call(struct request *request)
         return mmu_table_store(registers.bytes, registers.length, buffer.bytes, buffer.length,
                                tables.bytes, tables.length, given[0], given[1]);
     case START:
-        return mmu_start(registers.bytes, registers.length, buffer.bytes, buffer.length, given[0]);
+        return mmu_start(registers.bytes, registers.length, buffer.bytes, buffer.length);
     default:
         return mmu_guarded_setting(registers.bytes, registers.length, given[0], given[1]);
     }

@@ -59,9 +59,9 @@ static uint64_t served(uint32_t address, bool user, bool write, uint32_t draw)
 
 /* Document 01: "Numbers (course rule): 0 KSEG 16 bits; 1 CTRL, inv_exc bit 2, acc_exc 1, we_exc 0; 2 ENABLE 1 bit; 3 KBASE_LO; 4 KBASE_HI,
  * both 32 bits [..]; 5 CONTEXT 6 bits; 6 SELECT 6 bits; 7 TLB_HI, vpn bits 24 to 6, page_id 5 to 0; 8 TLB_LO, entry bits 22 to 0; 9 test
- * mode 1 bit." Four bytes for each number, "then four for exception value × 2 + write bit, later fields behind": the edition, 1 or 2. */
+ * mode 1 bit." Four bytes for each number, "then four for exception value × 2 + write bit". */
 
-enum { CONTEXT = 5, SETTINGS = 6, EDITION = 11, REGISTERS = 12 };
+enum { CONTEXT = 5, SETTINGS = 6, REGISTERS = 11 };
 
 static const struct {
     const char *name;
@@ -79,7 +79,6 @@ static const struct {
     {"TLB_LO", MMU_AT_TLB_LO, 23},
     {"test mode", MMU_AT_TEST, 1},
     {"the cause", MMU_AT_CAUSE, 5},
-    {"the edition", MMU_AT_EDITION, 2},
 };
 
 static const uint32_t numbers[SETTINGS] = {MMU_KSEG, MMU_CTRL, MMU_ENABLE, MMU_KBASE_LO, MMU_KBASE_HI, MMU_CONTEXT};
@@ -87,13 +86,7 @@ static const uint32_t numbers[SETTINGS] = {MMU_KSEG, MMU_CTRL, MMU_ENABLE, MMU_K
 /* The largest value of a register. */
 static uint32_t most_of(unsigned number)
 {
-    return number == EDITION ? 2 : UINT32_MAX >> (32 - places[number].width);
-}
-
-/* A random value of a register. */
-static uint32_t random_of(unsigned number)
-{
-    return number == EDITION ? 1 + (uint32_t)random_bits(1) : (uint32_t)random_bits(places[number].width);
+    return UINT32_MAX >> (32 - places[number].width);
 }
 
 /* The largest value that a setting takes. */
@@ -116,9 +109,6 @@ static void try_widths(void)
         mmu_put_word(registers + places[n].at, most_of(n) + 1);
         expect(places[n].name, mmu_refusal(raw(0, false, false, 0)), 1);
     }
-    start();
-    mmu_put_word(registers + MMU_AT_EDITION, 0);
-    expect("edition 0", mmu_refusal(raw(0, false, false, 0)), 1);
 }
 
 /* A setting by its name changes the register of that name and no other. */
@@ -127,7 +117,7 @@ static void try_setting(unsigned number, uint32_t value)
     uint32_t before[REGISTERS];
 
     for (unsigned n = 0; n < REGISTERS; n++) {
-        before[n] = random_of(n);
+        before[n] = (uint32_t)random_bits(places[n].width);
         mmu_put_word(registers + 4 * n, before[n]);
     }
     set(numbers[number], value);
@@ -170,7 +160,7 @@ static void try_segments(void)
  * cause. No other register changes. */
 static void expect_miss(bool write, uint32_t draw, uint32_t slot, uint32_t cause)
 {
-    const uint32_t after[REGISTERS] = {0, 0, 1, 0, 0, 5, slot, 0x60001u << 6 | 5, 0, 0, cause, 1};
+    const uint32_t after[REGISTERS] = {0, 0, 1, 0, 0, 5, slot, 0x60001u << 6 | 5, 0, 0, cause};
     uint64_t answer;
 
     start();
@@ -389,47 +379,6 @@ static void try_stores(void)
         try_emptied(count);
 }
 
-/* A start leaves its edition, and every other register 0. */
-static void expect_started(uint32_t edition, uint32_t number)
-{
-    memset(registers, 0xA5, R);
-    start_in(edition);
-    for (unsigned n = 0; n < REGISTERS; n++)
-        expect(places[n].name, mmu_get_word(registers + 4 * n), n == EDITION ? number : 0);
-}
-
-/* A read and two writes of a page with the leaf D0000123, and the leaf's word after each. Only a marked write sets bit 27. */
-static void try_marks(uint32_t edition, uint32_t marked)
-{
-    struct trial trial = {true, true, true, true, false, true, true, true};
-    const uint32_t address = VPN * 8192u + 0x17;
-    const uint8_t *word = tables + 4 * mmu_leaf_index(TABLE, VPN);
-
-    prepare(&trial);
-    start_in(edition);
-    set(MMU_ENABLE, 1);
-    set(MMU_CONTEXT, IDENTIFICATION);
-    expect("a leaf", mmu_get_word(word), 0xD0000123);
-    expect("a read's loads", mmu_loads(served(address, true, false, 2)), 1);
-    expect("a leaf that was read", mmu_get_word(word), 0xD0000123);
-    for (unsigned n = 0; n < 2; n++) {
-        uint64_t answer = served(address, true, true, 2);
-
-        expect("a write's answer", answer, UINT64_C(1) << 52 | (PFN * 8192u + 0x17));
-        expect("a leaf that was written", mmu_get_word(word), marked);
-    }
-    expect("whether a leaf has the mark", (mmu_get_word(word) & MMU_WRITTEN) != 0, marked != 0xD0000123);
-    expect("a leaf but for the mark", mmu_get_word(word) & ~MMU_WRITTEN, 0xD0000123);
-}
-
-static void try_editions(void)
-{
-    expect_started(MMU_EDITION_PLAIN, 1);
-    expect_started(MMU_EDITION_MARKED, 2);
-    try_marks(MMU_EDITION_PLAIN, 0xD0000123);
-    try_marks(MMU_EDITION_MARKED, 0xD8000123);
-}
-
 /* Each refusal by each call that gives it, as docs/C_INTERFACE.md's table has them. */
 
 static uint64_t raw_with(size_t registers_len, size_t buffer_len, uint32_t draw)
@@ -454,12 +403,12 @@ static uint64_t set_with(size_t registers_len, uint32_t number, uint32_t value)
 
 static void try_wrong_lengths(void)
 {
-    expect("1 of a start", mmu_refusal(mmu_start(registers, R - 1, buffer, B, 1)), MMU_REFUSED_REGISTERS);
+    expect("1 of a start", mmu_refusal(mmu_start(registers, R - 1, buffer, B)), MMU_REFUSED_REGISTERS);
     expect("1 of a setting", mmu_refusal(set_with(R - 1, MMU_ENABLE, 1)), MMU_REFUSED_REGISTERS);
     expect("1 of a raw access", mmu_refusal(raw_with(R - 1, B, 0)), MMU_REFUSED_REGISTERS);
     expect("1 of a served access", mmu_refusal(served_with(R - 1, B, T, 0)), MMU_REFUSED_REGISTERS);
     expect("1 of a store", mmu_refusal(store_with(R - 1, B, T, 0)), MMU_REFUSED_REGISTERS);
-    expect("2 of a start", mmu_refusal(mmu_start(registers, R, buffer, B - 1, 1)), MMU_REFUSED_BUFFER);
+    expect("2 of a start", mmu_refusal(mmu_start(registers, R, buffer, B - 1)), MMU_REFUSED_BUFFER);
     expect("2 of a raw access", mmu_refusal(raw_with(R, B - 1, 0)), MMU_REFUSED_BUFFER);
     expect("2 of a served access", mmu_refusal(served_with(R, B - 1, T, 0)), MMU_REFUSED_BUFFER);
     expect("2 of a store", mmu_refusal(store_with(R, B - 1, T, 0)), MMU_REFUSED_BUFFER);
@@ -475,27 +424,7 @@ static void try_wrong_registers(void)
     expect("1 of a raw access by a register", mmu_refusal(raw_with(R, B, 0)), MMU_REFUSED_REGISTERS);
     expect("1 of a served access by a register", mmu_refusal(served_with(R, B, T, 0)), MMU_REFUSED_REGISTERS);
     expect("1 of a store by a register", mmu_refusal(store_with(R, B, T, 0)), MMU_REFUSED_REGISTERS);
-    expect("a start over such registers", mmu_start(registers, R, buffer, B, 1), 0);
-}
-
-/* Registers of zeros were never started, and a start in no edition leaves every byte. */
-static void try_no_edition(void)
-{
-    static const uint32_t none[] = {0, 3, UINT32_MAX};
-
-    for (size_t n = 0; n < sizeof none / sizeof none[0]; n++) {
-        memset(registers, 0x5A, R);
-        expect("1 of a start by its edition", mmu_refusal(mmu_start(registers, R, buffer, B, none[n])), MMU_REFUSED_REGISTERS);
-        expect("1 of such a start before 2", mmu_refusal(mmu_start(registers, R, buffer, B - 1, none[n])), MMU_REFUSED_REGISTERS);
-        for (size_t byte = 0; byte < R; byte++)
-            expect("a byte after a refused start", registers[byte], 0x5A);
-    }
-    memset(registers, 0, R);
-    expect("1 of a setting without a start", mmu_refusal(set_with(R, MMU_ENABLE, 1)), MMU_REFUSED_REGISTERS);
-    expect("1 of a raw access without a start", mmu_refusal(raw_with(R, B, 0)), MMU_REFUSED_REGISTERS);
-    expect("1 of a served access without a start", mmu_refusal(served_with(R, B, T, 0)), MMU_REFUSED_REGISTERS);
-    expect("1 of a store without a start", mmu_refusal(store_with(R, B, T, 0)), MMU_REFUSED_REGISTERS);
-    start();
+    expect("a start over such registers", mmu_start(registers, R, buffer, B), 0);
 }
 
 static void try_wrong_arguments(void)
@@ -517,7 +446,6 @@ static void try_refusals(void)
     start();
     try_wrong_lengths();
     try_wrong_registers();
-    try_no_edition();
     try_wrong_arguments();
 }
 
@@ -528,10 +456,10 @@ static void try_lengths(void)
     expect("a store's refusal by the least length", mmu_refusal(store_with(R, B, MMU_TABLE_BYTES_MIN, 0)), 0);
     expect("a store's refusal by the greatest length", mmu_refusal(store_with(R, B, MMU_TABLE_BYTES_MAX, 0)), 0);
     for (size_t length = 0; length <= R + 1; length++)
-        expect("a start's refusal by the registers' length", mmu_refusal(mmu_start(registers, length, buffer, B, 1)),
+        expect("a start's refusal by the registers' length", mmu_refusal(mmu_start(registers, length, buffer, B)),
                length == MMU_REGISTER_BYTES ? 0 : 1);
     for (size_t length = 0; length <= B + 1; length++)
-        expect("a start's refusal by the buffer's length", mmu_refusal(mmu_start(registers, R, buffer, length, 1)),
+        expect("a start's refusal by the buffer's length", mmu_refusal(mmu_start(registers, R, buffer, length)),
                length == MMU_BUFFER_BYTES ? 0 : 2);
     for (size_t length = 0; length <= T + MMU_TABLE_BYTES_STEP; length++) {
         bool good = length >= MMU_TABLE_BYTES_MIN && length <= MMU_TABLE_BYTES_MAX && length % MMU_TABLE_BYTES_STEP == 0;
@@ -552,7 +480,6 @@ int main(void)
     try_kinds();
     try_stops();
     try_stores();
-    try_editions();
     try_refusals();
     try_lengths();
     return verdict();

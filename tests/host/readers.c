@@ -248,8 +248,8 @@ static void try_loads(void)
     }
 }
 
-/* A buffer of zeros that was never started, beside registers that were. An access has an exception of value 0 just where
- * docs/C_INTERFACE.md says so, and else the answer that a started buffer gives. */
+/* A buffer of zeros that was never started. An access has an exception of value 0 just where docs/C_INTERFACE.md says so, and else the
+ * answer that a started buffer gives. */
 
 struct settings {
     uint32_t kseg, ctrl, enable, identification;
@@ -286,7 +286,7 @@ static void try_unstarted(const struct settings *settings, uint32_t vpn)
     make(settings);
     started_raw = raw(address);
     started_served = served(address, 0);
-    start();
+    memset(registers, 0, sizeof registers);
     memset(buffer, 0, sizeof buffer);
     make(settings);
     expect_unstarted("a raw access without a start", raw(address), started_raw, of_value_0);

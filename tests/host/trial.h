@@ -9,11 +9,11 @@
 
 #include "mmu.h"
 
-/* The right lengths of the runs. Each run has room for a length that is too long, and the registers for the places of a wrong header. */
+/* The right lengths of the runs. Each run has room for a length that is too long. */
 enum { R = MMU_REGISTER_BYTES, B = MMU_BUFFER_BYTES, T = MMU_TABLE_BYTES_MAX };
 enum { OFFSET_BITS = 13, NUMBER_BYTES = 8, NUMBER_BITS = 64, MOST_SHOWN = 20 };
 
-static uint8_t registers[R + 8];
+static uint8_t registers[R + 1];
 static uint8_t buffer[B + 1];
 static uint8_t tables[T + MMU_TABLE_BYTES_STEP];
 static unsigned wrong;
@@ -45,14 +45,9 @@ static inline uint64_t random_bits(unsigned count)
     return state >> (NUMBER_BITS - count);
 }
 
-static inline void start_in(uint32_t edition)
-{
-    expect("the answer of a start", mmu_start(registers, R, buffer, B, edition), 0);
-}
-
 static inline void start(void)
 {
-    start_in(MMU_EDITION_PLAIN);
+    expect("the answer of a start", mmu_start(registers, R, buffer, B), 0);
 }
 
 static inline void set(uint32_t number, uint32_t value)

@@ -39,19 +39,6 @@ mmureport: 5/5 mmureport
 "
 }
 
-# The programs of edition 2 are built as those of edition 1, under their own names.
-second_edition() {
-    fresh && built && call 7 "$repository/bin/mmutrace2" "$work/whole.trace" </dev/null && printed $'arguments:\n'"$whole" &&
-        said "$(announced mmutrace2 4 'two minutes')
-mmutrace2: 4/4 mmutrace2
-" && call 7 "$repository/bin/mmureport2" "$work/whole.trace" "$work/cut.trace" </dev/null &&
-        printed "arguments: <$work/whole.trace> <$work/cut.trace>
-" && said "mmureport2: $work/cut.trace: 11 bytes are no multiple of 8, so it ends with a cut record
-$(announced mmureport2 5 'three minutes')
-mmureport2: 5/5 mmureport2
-" && call 7 "$repository/bin/mmutrace2" </dev/null && said '' && [ "$(builds)" -eq 4 ]
-}
-
 # Each changed source is one build; so is a program that is old or missing.
 changed_source() {
     fresh && runs 1 && touch "$repository/crates/low/file" && runs 2 && touch "$repository/crates.txt" && runs 3 &&
@@ -113,7 +100,7 @@ without_flock() {
         mv "$work/setsid" "$work/no tools" && rm "$work/no tools/rt" "$work/no tools/cargo"
 }
 
-waits="mmu[a-z0-9]*: waiting for another call's build, whose log is in $repository/target"
+waits="mmu[a-z]*: waiting for another call's build, whose log is in $repository/target"
 
 # await COMMAND..: waits until the command succeeds, for some seconds at most.
 await() {
@@ -208,7 +195,7 @@ unmade_folders() {
 without_sources() {
     local script missing
     rm -rf "$work/alone" && mkdir "$work/alone" && cp -R bin "$work/alone" || return 1
-    for script in mmutrace mmutrace2 mmureport mmureport2 tracetext; do
+    for script in mmutrace mmureport tracetext; do
         missing=crates
         [ "$script" != tracetext ] || missing=tools/tracetext/Cargo.toml
         call 2 "$work/alone/bin/$script" "$work/whole.trace" </dev/null && printed '' && grep -qxF "\
@@ -334,7 +321,6 @@ under() {
 verdict "bin/mmutrace builds at the first call, and shows each crate" first_call
 verdict "bin/mmutrace does not build at the second call" second_call
 verdict "bin/mmureport counts the crates that stay proved" another_program
-verdict "bin/mmutrace2 and bin/mmureport2 build and run programs of their own" second_edition
 verdict "bin/mmutrace builds where it is older than a source, or missing" changed_source
 verdict "bin/mmutrace asks once about a source that is the same" same_source
 verdict "bin/mmutrace asks once about a source that was copied in with an older time" older_source

@@ -33,9 +33,8 @@ passes_errors_on() {
 helps() {
     local script
     fresh
-    for script in mmutrace mmutrace2 mmureport mmureport2 tracetext; do
+    for script in mmutrace mmureport tracetext; do
         bare 0 "$repository/bin/$script" --help && said '' && grep -q "^usage: $script " "$out" || return 1
-        case $script in *2) grep -q '^usage: .*, in edition 2$' "$out" ;; *) ! grep -q edition "$out" ;; esac || return 1
     done
     bare 0 "$repository/bin/tracetext" encode --help && said '' && grep -q '^usage: tracetext ' "$out" || return 1
     [ ! -e "$repository/target" ]
@@ -103,16 +102,6 @@ says_cut() {
 " && here 7 mmutrace a.text </dev/null && said "mmutrace: a.text: $text_sentence
 " && here 7 mmutrace <"$folder/a.text" && printed $'arguments:\na b\nc' && said "mmutrace: standard input: $text_sentence
 " && here 7 mmutrace </dev/null && said '' && printf 'piece' | here 7 mmutrace && printed $'arguments:\npiece' && said ''
-}
-
-# What is said of a call of edition 2 has its script's name, through a link too.
-says_own_name() {
-    built && call 7 "$repository/bin/mmutrace2" </dev/null && ln -sf "$repository/bin/mmutrace2" "$folder/linked" &&
-        (cd "$folder" && call 7 ./linked e </dev/null) && said "mmutrace2: e: $looks_sentence
-" && here 2 mmutrace2 -v </dev/null && head -n 2 "$errors" | cut -d ' ' -f 1-3 | diff - <(printf 'mmutrace2: there is\nusage: mmutrace2 [FILE]\n') &&
-        here 2 mmureport2 </dev/null && head -n 2 "$errors" | cut -d ' ' -f 1-3 | diff - <(printf 'mmureport2: no trace\nusage: mmureport2 FILE..\n') &&
-        call 7 python3 tests/text/terminal.py type abcdefgh "$repository/bin/mmutrace2" &&
-        said $'mmutrace2: records of 8 bytes are read from this terminal, up to Ctrl-D. For those of a file: mmutrace2 FILE\n'
 }
 
 on_a_terminal() {
@@ -214,7 +203,6 @@ report_with_many_names() {
 verdict "bin/tracetext works from another folder" from_another_folder
 verdict "bin/tracetext passes status and messages on" passes_errors_on
 verdict "the scripts help, without a build" helps
-verdict "bin/mmutrace2 and bin/mmureport2 go by their own names" says_own_name
 verdict "bin/mmutrace takes the name of a file" takes_a_file
 verdict "bin/mmutrace says what is wrong with a call" refuses_calls
 verdict "bin/mmutrace does not say that there is no file where it cannot know" refuses_lost_files

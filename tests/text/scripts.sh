@@ -13,9 +13,7 @@ side: low
 other: low # other
 middle: low side io
 mmutrace: middle
-mmutrace2: middle
 mmureport: os middle other
-mmureport2: os middle other
 TEXT
 cp tools/tracetext/src/usage.txt "$repository/tools/tracetext/src"
 touch "$repository/tools/tracetext/Cargo.toml" "$repository/tools/tracetext/Cargo.lock"
@@ -42,8 +40,8 @@ TEXT
 cat >"$work/path/rt" <<'TEXT'
 #!/bin/sh
 case $* in
-    'check mmutrace' | 'check mmutrace2') crates="low side middle $2" ;;
-    'check mmureport' | 'check mmureport2') crates="low side other middle $2" ;;
+    'check mmutrace') crates='low side middle mmutrace' ;;
+    'check mmureport') crates='low side other middle mmureport' ;;
     *) exit 9 ;;
 esac
 [ -f crates.txt ] || exit 9

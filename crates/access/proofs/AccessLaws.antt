@@ -11,7 +11,7 @@ use Rattle.runs.proofs.Bools.{both}
 use Rattle.entry.specs.Address.{vpn_of, offset_of, slot_of}
 use Rattle.entry.specs.Entry.{unpack}
 use Rattle.entry.specs.declared.Entry.{Entry}
-use Rattle.registers.specs.Fields.{put, to_words, field, widths, registers_fit, SELECT, TLB_HI, CAUSE}
+use Rattle.registers.specs.Fields.{put, to_words, from_words, field, widths, registers_fit}
 use Rattle.registers.specs.Refusals.{draw_fits}
 use Rattle.registers.proofs.Fields.{fits-place}
 use Rattle.registers.specs.declared.Access.{Access}
@@ -44,8 +44,21 @@ unfolding is_set
 is-on x h = rw (ne_eqb x 0 h)
 
 pub cause-is : (r : Registers) (a : Access) (slot value vpn : ℕ) → vpn ≡ vpn_of a.address
-    → put (put (put r SELECT slot) TLB_HI (vpn * 64 + r.context)) CAUSE (value * 2 + bool_byte a.write) ≡ with_cause r a slot value
-unfolding with_cause
+    → record {
+      kseg = r.kseg;
+      ctrl = r.ctrl;
+      enable = r.enable;
+      kbase_lo = r.kbase_lo;
+      kbase_hi = r.kbase_hi;
+      context = r.context;
+      select = slot;
+      tlb_hi = vpn * 64 + r.context;
+      tlb_lo = r.tlb_lo;
+      test = r.test;
+      cause = value * 2 + bool_byte a.write;
+    }
+    ≡ with_cause r a slot value
+unfolding with_cause put to_words from_words
 cause-is r a slot value vpn q = rw (q, bit_byte a.write)
 
 module _ (r : Registers) (a : Access) (tested : Physical) where

@@ -42,7 +42,7 @@ fn segment_of(address: u32) -> u32
 }
 
 // Supervisor mode, and the segment's bit in KSEG set.
-pub fn in_linear_segment(kseg: u32, a: Access) -> bool
+fn in_linear_segment(kseg: u32, a: Access) -> bool
     ensures { result ≡ in_linear_segment kseg a }
 {
     let segment = segment_of(a.address);

@@ -6,8 +6,7 @@ use native.Mathlib.Omega.{arith}
 use borrow.Author.Tests.{ltb-true, leb-true, eq-eqb, ne_eqb, not-false}
 use Rattle.runs.proofs.Bits.{bits-low}
 use Rattle.entry.specs.Entry.{join}
-use Rattle.registers.specs.Fields.{edition_fits, fits_at, put, registers_fit, start_registers, widths, zero_registers, EDITION, FIELDS}
-use Rattle.registers.specs.Refusals.{refuse_unless}
+use Rattle.registers.specs.Fields.{put, widths, fits_at, registers_fit, zero_registers}
 use Rattle.registers.specs.Replies.{refusal_of, refused, done}
 use Rattle.registers.proofs.RefusalLaws.{passed, refuse-here, refuse-later, when-accepted, when-refused, reply-refusal}
 use Rattle.registers.specs.declared.Registers.{Registers}
@@ -20,11 +19,11 @@ use Rattle.control.specs.Writing.{write_refusal, written_entry, written_buffer, 
 use Rattle.control.specs.Setting.{is_guarded, switch_fits, argument_refusal, setting_refusal, setting_reply, GuardedSettingGives}
 use Rattle.control.proofs.NumberLaws.{NumberAccepted, number_passed}
 
-pub guarded-below : (number : ℕ) (t : Bool) → t ≡ is_guarded number → not t ≡ false → number < FIELDS
+pub guarded-below : (number : ℕ) (t : Bool) → t ≡ is_guarded number → not t ≡ false → number < 11
 unfolding is_guarded
 guarded-below number t q h = omega (arith, leb-true number 5 (sym q ∙ not-false t h))
 
-pub setting-accepted : (r : Registers) (number value : ℕ) → setting_refusal r number value ≡ 0 → number < FIELDS
+pub setting-accepted : (r : Registers) (number value : ℕ) → setting_refusal r number value ≡ 0 → number < 11
 unfolding setting_refusal argument_refusal
 setting-accepted r number value h =
     let one = passed (registers_fit r) 1 _ (λ e. omega arith) h in
@@ -56,11 +55,10 @@ module _ (r : Registers) (b : Buffer) (number value : ℕ) where
   stores-none n = sym (rw (ne_eqb number 8 n))
 
 -- what each reply promises
-pub start_gives : (edition : ℕ) (b after : Buffer) (reply : Reply) → reply ≡ start_reply edition b → after ≡ started_buffer edition b
-    → StartGives edition b after reply
+pub start_gives : (b after : Buffer) (reply : Reply) → reply ≡ start_reply b → after ≡ started_buffer b → StartGives b after reply
 unfolding start_reply
-start_gives edition b after reply q e = record {
-  refusal_is = ap (λ (s : Reply). refusal_of s.outcome) q ∙ reply-refusal (start_refusal edition b) 0 (start_registers edition) zero_registers;
+start_gives b after reply q e = record {
+  refusal_is = ap (λ (s : Reply). refusal_of s.outcome) q ∙ reply-refusal (start_refusal b) 0 zero_registers zero_registers;
   reply-is = q;
   buffer-is = e;
 }
@@ -82,32 +80,18 @@ setting-gives r number value reply q = record {
   reply-is = q;
 }
 
--- the three ways through a start
-module _ (edition : ℕ) (b : Buffer) (t : Bool) (none : Registers) (reply : Reply) (tq : t ≡ edition_fits edition) (rq : none ≡ zero_registers)
-  where
-    pub start-unknown : not t ≡ true → reply ≡ refused none 1 → StartGives edition b b reply
-    unfolding start_refusal start_reply started_buffer
-    start-unknown h q =
-        let one = refuse-here (edition_fits edition) t 1 (refuse_unless (buffer_fits b) 2 0) tq h in
-        start_gives edition b b reply
-        (when-refused _ 1 one _ _ _ (λ e. omega arith) (q ∙ rw (rq, ← one) refl))
-        (when-refused _ 1 one _ _ _ (λ e. omega arith) refl)
+-- the two ways through a start
+module _ (b : Buffer) (t : Bool) (r : Registers) (reply : Reply) (tq : t ≡ buffer_fits b) (rq : r ≡ zero_registers) where
+  pub start-refused : not t ≡ true → reply ≡ refused r 2 → StartGives b b reply
+  unfolding start_refusal start_reply started_buffer
+  start-refused h q =
+      let two = refuse-here (buffer_fits b) t 2 0 tq h in
+      start_gives b b reply
+      (when-refused _ 2 two _ _ _ (λ e. omega arith) (q ∙ rw (rq, ← two) refl))
+      (when-refused _ 2 two _ _ _ (λ e. omega arith) refl)
 
-    module _ (u : Bool) (uq : u ≡ buffer_fits b) (known : not t ≡ false) where
-      pub start-short : not u ≡ true → reply ≡ refused none 2 → StartGives edition b b reply
-      unfolding start_refusal start_reply started_buffer
-      start-short h q =
-          let two =
-          refuse-later (edition_fits edition) t 1 (refuse_unless (buffer_fits b) 2 0) tq 2 known (refuse-here (buffer_fits b) u 2 0 uq h) in
-          start_gives edition b b reply
-          (when-refused _ 2 two _ _ _ (λ e. omega arith) (q ∙ rw (rq, ← two) refl))
-          (when-refused _ 2 two _ _ _ (λ e. omega arith) refl)
-
-      pub start-done : (after : Buffer) (r : Registers) → not u ≡ false → r ≡ put none EDITION edition → reply ≡ done r 0
-          → after ≡ start_buffer b → StartGives edition b after reply
-      unfolding start_refusal start_reply started_buffer start_registers
-      start-done after r h s q e =
-          let ok =
-          refuse-later (edition_fits edition) t 1 (refuse_unless (buffer_fits b) 2 0) tq 0 known
-          (refuse-later (buffer_fits b) u 2 0 uq 0 h refl) in
-          start_gives edition b after reply (when-accepted _ 0 ok _ _ _ refl (q ∙ rw (s, rq) refl)) (when-accepted _ 0 ok _ _ _ refl e)
+  pub start-done : (after : Buffer) → not t ≡ false → reply ≡ done r 0 → after ≡ start_buffer b → StartGives b after reply
+  unfolding start_refusal start_reply started_buffer
+  start-done after h q e =
+      let none = refuse-later (buffer_fits b) t 2 0 tq 0 h refl in
+      start_gives b after reply (when-accepted _ 0 none _ _ _ refl (q ∙ rw rq refl)) (when-accepted _ 0 none _ _ _ refl e)

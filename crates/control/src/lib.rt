@@ -18,25 +18,18 @@ const TLB_HI: u32 = 7;
 
 const TLB_LO: u32 = 8;
 
-// The place of the edition, which has no register number.
-const EDITION: u32 = 11;
-
 // The lowest bit of an entry above those of TLB_LO, as a number.
 const ABOVE_LO: u64 = 1 << 23;
 
-// Makes every slot empty and all registers 0 but the edition. A refused start returns registers that are all 0 and alters nothing.
-pub fn start(buffer: &mut [u64], edition: u32) -> Reply
-    ensures { StartGives edition (Buffer.Wide buffer.old) (Buffer.Wide buffer.new) result }
+// Makes every slot empty and all registers 0. A refused start returns registers that are all 0 and alters nothing.
+pub fn start(buffer: &mut [u64]) -> Reply
+    ensures { StartGives (Buffer.Wide buffer.old) (Buffer.Wide buffer.new) result }
 {
-    let none = registers::zero_registers();
-    if !registers::edition_fits(edition) {
-        return registers::refused(none, refusals::REGISTERS);
-    }
+    let r = registers::zero_registers();
     if !slots::buffer_fits(buffer) {
-        return registers::refused(none, refusals::BUFFER);
+        return registers::refused(r, refusals::BUFFER);
     }
     slots::empty_slots(buffer);
-    let r = registers::put(none, EDITION, edition);
     registers::done(r, 0)
 }
 

@@ -4,14 +4,13 @@ use mathlib.Core.Bool.{true}
 use mathlib.Core.List.{◌++◌}
 use lib.ListN.{replicate}
 use Rattle.runs.specs.Counts.{all}
-use Rattle.registers.specs.Fields.{to_words, from_words, field, put, widths, fits_at, edition_fits, registers_fit, zero_registers, start_registers}
+use Rattle.registers.specs.Fields.{to_words, from_words, field, put, widths, fits_at, registers_fit, zero_registers}
 use Rattle.registers.specs.Refusals.{refuse_unless, draw_fits}
 use Rattle.page_table.specs.Stretches.{length_fits, tables_fit}
 use Rattle.slots.specs.Buffer.{buffer_fits, with_slot}
 use Rattle.slots.specs.Start.{empty_first, start_buffer}
 use Rattle.access.specs.Translation.{is_set}
 use Rattle.store.specs.TableStore.{index_fits, store_refusal}
-use Rattle.control.specs.Starting.{start_refusal}
 use Rattle.control.specs.Setting.{argument_refusal, setting_refusal}
 use Rattle.mmu.specs.ServedAccess.{may_be_served, served_refusal}
 use Rattle.sequence.specs.Calls.{refusal, accepted}
@@ -24,8 +23,8 @@ use Rattle.examples.specs.Walks.{tables, good}
 use Rattle.examples.specs.Served.{machine, reading}
 use Rattle.examples.specs.Sequences.{lent, fresh, outcomes, strays}
 
-lent_fits : start_refusal 1 lent ≡ 0
-unfolding start_refusal refuse_unless edition_fits buffer_fits lent
+lent_fits : buffer_fits lent ≡ true
+unfolding buffer_fits lent
 lent_fits = refl
 
 words-fit : tables_fit (replicate 2048 0) ≡ true
@@ -34,10 +33,10 @@ words-fit = refl
 
 strays-refused : StraysRefused (outcomes ++ strays)
 unfolding StraysRefused outcomes strays accepted refusal served_refusal store_refusal setting_refusal argument_refusal refuse_unless
-    registers_fit all fits_at edition_fits field to_words from_words widths put zero_registers start_registers registers_with enabled started
-    buffer_fits with_slot empty_first start_buffer tables_fit length_fits tables good machine reading user draw_fits may_be_served is_set index_fits
+    registers_fit all fits_at field to_words from_words widths put zero_registers registers_with enabled started buffer_fits with_slot empty_first
+    start_buffer tables_fit length_fits tables good machine reading user draw_fits may_be_served is_set index_fits
 strays-refused = (refl, (refl, (refl, (refl, (refl, (refl, (refl, (refl, (refl, tt)))))))))
 
-pub reached : HoldsThroughout (fresh 1 2048) Start (events_of (fresh 1 2048) (outcomes ++ strays))
+pub reached : HoldsThroughout (fresh 2048) Start (events_of (fresh 2048) (outcomes ++ strays))
 unfolding fresh
-reached = of-every-list 1 lent (replicate 2048 0) lent_fits words-fit (outcomes ++ strays) strays-refused
+reached = of-every-list lent (replicate 2048 0) lent_fits words-fit (outcomes ++ strays) strays-refused

@@ -1,7 +1,7 @@
 -- Starts and register writes, and the bits of each field.
 use Rattle.std.specs.Prelude.{◌+◌, ◌*◌, List, [], ◌∷◌, true, false, set, replicate}
 use Rattle.registers.specs.Fields.{put, registers_fit, zero_registers, KSEG, CTRL, ENABLE, KBASE_LO, KBASE_HI, CONTEXT, SELECT, TLB_HI}
-use Rattle.registers.specs.Fields.{TLB_LO, TEST, CAUSE, EDITION}
+use Rattle.registers.specs.Fields.{TLB_LO, TEST, CAUSE}
 use Rattle.registers.specs.Replies.{refused, done}
 use Rattle.registers.specs.declared.Registers.{Registers}
 use Rattle.slots.specs.Buffer.{Buffer, slot_at}
@@ -25,15 +25,10 @@ caused = registers_with (reg TLB_HI (7 * 64 + 3) ∷ reg CAUSE 17 ∷ reg SELECT
 
 unfoldable pub calls : List Example
 calls =
-    -- a refused start returns registers all 0, the edition too, and alters nothing; the edition is judged before the buffer
-    (start_reply 1 short gives refused zero_registers 2)
-    ∷ (started_buffer 1 short gives short)
-    ∷ (start_reply 0 short gives refused zero_registers 1)
-    ∷ (start_reply 3 started gives refused zero_registers 1)
-    ∷ (started_buffer 3 ones gives ones)
-    -- a start keeps its edition
-    ∷ (start_reply 1 started gives done (registers_with (reg EDITION 1 ∷ [])) 0)
-    ∷ (start_reply 2 started gives done (registers_with (reg EDITION 2 ∷ [])) 0)
+    -- a refused start returns registers all 0 and alters nothing
+    (start_reply short gives refused zero_registers 2)
+    ∷ (started_buffer short gives short)
+    ∷ (start_reply started gives done zero_registers 0)
     -- a write to TLB_HI leaves the exception and write bits, and the buffer
     ∷ (write_reply caused started TLB_HI 0x1ffffff gives done (registers_with (reg TLB_HI 0x1ffffff ∷ reg CAUSE 17 ∷ reg SELECT 63 ∷ [])) 0)
     ∷ (buffer_after_write caused started TLB_HI 0x1ffffff gives started)
@@ -41,12 +36,11 @@ calls =
     ∷ (slot_at (buffer_after_write caused started TLB_LO 0x7fffff) 63 gives 3 * 8388608 + 0x7fffff)
     ∷ (write_reply caused started TLB_LO 0x7fffff
     gives done (registers_with (reg TLB_HI (7 * 64 + 3) ∷ reg TLB_LO 0x7fffff ∷ reg CAUSE 17 ∷ reg SELECT 63 ∷ [])) 0)
-    -- context 63 may be written, and 64 is too large; there is no register 10 or 11
+    -- context 63 may be written, and 64 is too large; there is no register 10
     ∷ (write_reply caused started CONTEXT 63
     gives done (registers_with (reg CONTEXT 63 ∷ reg TLB_HI (7 * 64 + 3) ∷ reg CAUSE 17 ∷ reg SELECT 63 ∷ [])) 0)
     ∷ (write_reply caused started CONTEXT 64 gives refused caused 7)
     ∷ (write_reply caused started 10 0 gives refused caused 7)
-    ∷ (write_reply caused started EDITION 2 gives refused caused 7)
     ∷ (write_reply caused short 10 0 gives refused caused 2)
     -- registers are judged first
     ∷ (write_reply too_wide short 10 0 gives refused too_wide 1)
@@ -65,12 +59,11 @@ unfoldable pub largest : Registers
 largest =
     registers_with
     (reg KSEG 0xFFFF ∷ reg CTRL 7 ∷ reg ENABLE 1 ∷ reg KBASE_LO 0xFFFFFFFF ∷ reg KBASE_HI 0xFFFFFFFF ∷ reg CONTEXT 63 ∷ reg SELECT 63
-    ∷ reg TLB_HI 0x1FFFFFF ∷ reg TLB_LO 0x7FFFFF ∷ reg TEST 1 ∷ reg CAUSE 31 ∷ reg EDITION 2
-    ∷ [])
+    ∷ reg TLB_HI 0x1FFFFFF ∷ reg TLB_LO 0x7FFFFF ∷ reg TEST 1 ∷ reg CAUSE 31 ∷ [])
 
 unfoldable pub fields : List Example
 fields =
-    -- number 1: each field one past its bits, and the edition on either side of 1 and 2
+    -- number 1: each field one past its bits
     (registers_fit largest gives true)
     ∷ (registers_fit (put largest KSEG 0x10000) gives false)
     ∷ (registers_fit (put largest CTRL 8) gives false)
@@ -81,7 +74,4 @@ fields =
     ∷ (registers_fit (put largest TLB_LO 0x800000) gives false)
     ∷ (registers_fit (put largest TEST 2) gives false)
     ∷ (registers_fit (put largest CAUSE 32) gives false)
-    ∷ (registers_fit (put largest EDITION 1) gives true)
-    ∷ (registers_fit (put largest EDITION 0) gives false)
-    ∷ (registers_fit (put largest EDITION 3) gives false)
     ∷ []

@@ -8,7 +8,6 @@ use Rattle.examples.specs.Calls.{calls, fields}
 use Rattle.examples.specs.Reads.{reads}
 use Rattle.examples.specs.Walks.{walks}
 use Rattle.examples.specs.Served.{served}
-use Rattle.examples.specs.WrittenMarks.{written_marks}
 use Rattle.examples.specs.Stops.{stops}
 use Rattle.examples.specs.Stores.{sweeps, stores, guarded_settings}
 use Rattle.examples.specs.Pools.{pool_calls, maps, histories}
@@ -20,5 +19,4 @@ use Rattle.examples.specs.Reports.{reports}
 unfoldable pub examples : List Example
 examples =
     marked ++ rows ++ segments ++ refusals ++ exceptions ++ hits ++ calls ++ fields ++ reads ++ walks
-    ++ served ++ written_marks ++ stops ++ sweeps ++ stores ++ guarded_settings ++ pool_calls ++ maps ++ histories
-    ++ ends ++ sequences ++ traces ++ reports
+    ++ served ++ stops ++ sweeps ++ stores ++ guarded_settings ++ pool_calls ++ maps ++ histories ++ ends ++ sequences ++ traces ++ reports

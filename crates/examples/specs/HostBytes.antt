@@ -11,7 +11,7 @@ use Rattle.table_bytes.specs.TableBytes.{words_of}
 use Rattle.mmu_c.specs.Runs.{registers_of, register_bytes, buffer_of, buffer_bytes, length_taken}
 use Rattle.mmu_c.specs.Answers.{raw_answer, outcome_answer}
 use Rattle.mmu_c.specs.RawAccess.{raw_number, raw_registers}
-use Rattle.mmu_c.specs.ServedAccess.{served_number, served_registers, served_bytes, served_tables}
+use Rattle.mmu_c.specs.ServedAccess.{served_number, served_registers, served_bytes}
 use Rattle.mmu_c.specs.TableStore.{store_number, store_tables}
 use Rattle.mmu_c.specs.Start.{start_number, start_registers, start_bytes}
 use Rattle.mmu_c.specs.GuardedSetting.{setting_number, setting_registers}
@@ -43,9 +43,9 @@ times (suc n) piece = piece ++ times n piece
 
 -- ---- the layout
 
--- registers with twelve different fields
-unfoldable pub twelve_bytes : List ℕ
-twelve_bytes =
+-- registers with eleven different fields
+unfoldable pub eleven_bytes : List ℕ
+eleven_bytes =
     word 0x00 0x00 0xA5 0xC3
     ++ word 0x00 0x00 0x00 0x05
     ++ word 0x00 0x00 0x00 0x01
@@ -57,10 +57,9 @@ twelve_bytes =
     ++ word 0x00 0x65 0x43 0x21
     ++ word 0x00 0x00 0x00 0x00
     ++ word 0x00 0x00 0x00 0x1B
-    ++ word 0x00 0x00 0x00 0x02
 
-unfoldable pub twelve : Registers
-twelve = record {
+unfoldable pub eleven : Registers
+eleven = record {
   kseg = 0xA5C3;
   ctrl = 5;
   enable = 1;
@@ -72,7 +71,6 @@ twelve = record {
   tlb_lo = 0x654321;
   test = 0;
   cause = 0x1B;
-  edition = 2;
 }
 
 -- slot 35 of a buffer, with bits 44 and up set
@@ -85,8 +83,8 @@ root_bytes = zeros 5 ++ word 0x80 0x00 0x00 0x01 ++ zeros 1018
 
 unfoldable pub layout : List Example
 layout =
-    (registers_of twelve_bytes gives twelve)
-    ∷ (register_bytes twelve gives twelve_bytes)
+    (registers_of eleven_bytes gives eleven)
+    ∷ (register_bytes eleven gives eleven_bytes)
     ∷ (slot_at (buffer_of slot_bytes) 35 gives 0xABCDEF01234)
     ∷ (unpack 0xABCDEF01234 gives record {
       vpn15 = 0x55E6;
@@ -125,7 +123,7 @@ answers =
 
 -- bytes that held anything
 unfoldable pub dirty_registers : List ℕ
-dirty_registers = replicate 48 0xEE
+dirty_registers = replicate 44 0xEE
 
 unfoldable pub dirty_buffer : List ℕ
 dirty_buffer = replicate 512 0xEE
@@ -138,13 +136,9 @@ empty_bytes =
     ++ times 16 (slot 0x00 0x00 0x00 0x00 0x5F 0x80 0x00 0x00)
     ++ times 16 (slot 0x00 0x00 0x00 0x00 0x7F 0x80 0x00 0x00)
 
--- registers that a start in an edition leaves
-unfoldable pub fresh_bytes : (edition : ℕ) → List ℕ
-fresh_bytes edition = zeros 11 ++ word 0x00 0x00 0x00 edition
-
--- KSEG bit 10, CTRL 7, ENABLE, the base 3 of segment 10, CONTEXT 5, and an edition
-unfoldable pub set_in : (edition : ℕ) → List ℕ
-set_in edition =
+-- KSEG bit 10, CTRL 7, ENABLE, the base 3 of segment 10, CONTEXT 5
+unfoldable pub set_bytes : List ℕ
+set_bytes =
     word 0x00 0x00 0x04 0x00
     ++ word 0x00 0x00 0x00 0x07
     ++ word 0x00 0x00 0x00 0x01
@@ -152,10 +146,6 @@ set_in edition =
     ++ word 0x00 0x00 0x03 0x00
     ++ word 0x00 0x00 0x00 0x05
     ++ zeros 5
-    ++ word 0x00 0x00 0x00 edition
-
-unfoldable pub set_bytes : List ℕ
-set_bytes = set_in 1
 
 -- the registers after the settings, one after the other
 unfoldable pub settings_made : List ℕ → List ℕ
@@ -170,7 +160,6 @@ missed_bytes =
     ++ word 0x00 0x00 0x00 0x45
     ++ zeros 2
     ++ word 0x00 0x00 0x00 0x10
-    ++ word 0x00 0x00 0x00 0x01
 
 -- 8,192 bytes: the directory's first word names table 1, whose second word is a leaf
 unfoldable pub leaf_bytes : List ℕ
@@ -185,15 +174,12 @@ leaf_bytes =
 
 unfoldable pub host_calls : List Example
 host_calls =
-    (start_number 1 dirty_registers dirty_buffer gives 0)
-    ∷ (start_registers 1 dirty_registers dirty_buffer gives fresh_bytes 1)
-    ∷ (start_bytes 1 dirty_registers dirty_buffer gives empty_bytes)
-    ∷ (start_registers 2 dirty_registers dirty_buffer gives fresh_bytes 2)
-    ∷ (start_registers 1 dirty_registers (0xEE ∷ dirty_buffer) gives dirty_registers)
-    ∷ (start_registers 3 dirty_registers dirty_buffer gives dirty_registers)
-    ∷ (start_bytes 3 dirty_registers dirty_buffer gives dirty_buffer)
-    ∷ (setting_number (fresh_bytes 1) 5 5 gives 0)
-    ∷ (settings_made (fresh_bytes 1) gives set_bytes)
+    (start_number dirty_registers dirty_buffer gives 0)
+    ∷ (start_registers dirty_registers dirty_buffer gives zeros 11)
+    ∷ (start_bytes dirty_registers dirty_buffer gives empty_bytes)
+    ∷ (start_registers dirty_registers (0xEE ∷ dirty_buffer) gives dirty_registers)
+    ∷ (setting_number (zeros 11) 5 5 gives 0)
+    ∷ (settings_made (zeros 11) gives set_bytes)
     ∷ (setting_number set_bytes 5 63 gives 0x0500000000000000)
     ∷ (setting_registers set_bytes 5 63 gives set_bytes)
     ∷ (setting_number set_bytes 6 0 gives 0x0700000000000000)
@@ -207,10 +193,6 @@ host_calls =
     ∷ (served_number set_bytes empty_bytes leaf_bytes (user false 0x2ABC 2) gives 0x0011000000246ABC)
     ∷ (served_bytes set_bytes empty_bytes leaf_bytes (user false 0x2ABC 2)
     gives take 264 empty_bytes ++ slot 0x00 0x00 0x00 0x00 0x02 0xA8 0x01 0x23 ++ drop 272 empty_bytes)
-    -- a write is marked in edition 2 alone: bit 27 of word 1025
-    ∷ (served_number (set_in 2) empty_bytes leaf_bytes (user true 0x2ABC 2) gives 0x0011000000246ABC)
-    ∷ (take 4 (drop 4100 (served_tables (set_in 2) empty_bytes leaf_bytes (user true 0x2ABC 2))) gives word 0xD8 0x00 0x01 0x23)
-    ∷ (take 4 (drop 4100 (served_tables set_bytes empty_bytes leaf_bytes (user true 0x2ABC 2))) gives word 0xD0 0x00 0x01 0x23)
     ∷ (store_number set_bytes empty_bytes root_bytes (record { index = 1024; value = 0 }) gives 0x0600000000000000)
     ∷ (take 8 (store_tables set_bytes empty_bytes root_bytes (record { index = 1; value = 0x89ABCDEF }))
     gives word 0x00 0x00 0x00 0x00 ++ word 0x89 0xAB 0xCD 0xEF)
@@ -224,13 +206,8 @@ longer bytes = 0xEE ∷ bytes
 
 unfoldable pub lengths : List Example
 lengths =
-    (start_number 1 (longer dirty_registers) (longer dirty_buffer) gives 0x0100000000000000)
-    ∷ (start_number 0 dirty_registers (longer dirty_buffer) gives 0x0100000000000000)
-    ∷ (start_number 3 dirty_registers (longer dirty_buffer) gives 0x0100000000000000)
-    ∷ (start_number 1 dirty_registers (longer dirty_buffer) gives 0x0200000000000000)
-    -- 44 bytes, without the edition
-    ∷ (start_number 1 (take 44 dirty_registers) dirty_buffer gives 0x0100000000000000)
-    ∷ (setting_number (take 44 set_bytes) 5 5 gives 0x0100000000000000)
+    (start_number (longer dirty_registers) (longer dirty_buffer) gives 0x0100000000000000)
+    ∷ (start_number dirty_registers (longer dirty_buffer) gives 0x0200000000000000)
     ∷ (setting_number (longer set_bytes) 5 63 gives 0x0100000000000000)
     ∷ (raw_number (longer set_bytes) (longer empty_bytes) (user false 0x2ABC 4) gives 0x0100000000000000)
     ∷ (raw_number set_bytes (longer empty_bytes) (user false 0x2ABC 4) gives 0x0200000000000000)
@@ -253,7 +230,7 @@ lengths =
 -- ---- a run of a host
 
 unfoldable pub started : Bytes
-started = record { registers = fresh_bytes 1; buffer = empty_bytes; tables = leaf_bytes }
+started = record { registers = zeros 11; buffer = empty_bytes; tables = leaf_bytes }
 
 -- a page is loaded, aged and removed while its entry stands in the buffer; between, calls that are refused
 unfoldable pub asks : List HostAsk
@@ -262,8 +239,8 @@ asks =
     ∷ Now (ToSet 1 7)
     ∷ Now (ToSet 2 1)
     ∷ Now (ToAccess (user false 0x2ABC 2))
-    ∷ Stray (HostSetting (longer (fresh_bytes 1)) 5 5)
-    ∷ StrayRaw (longer (fresh_bytes 1)) empty_bytes (user false 0x2ABC 0)
+    ∷ Stray (HostSetting (longer (zeros 11)) 5 5)
+    ∷ StrayRaw (longer (zeros 11)) empty_bytes (user false 0x2ABC 0)
     ∷ Stray (HostAccess started (user false 0x2ABC 4))
     ∷ Now (ToStore (record { index = 1025; value = 0x90000123 }))
     ∷ Now (ToAccess (user false 0x2ABC 1))

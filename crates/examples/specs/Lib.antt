@@ -2,7 +2,6 @@ pub mod Claims
 pub mod Scene
 pub mod Walks
 pub mod Served
-pub mod WrittenMarks
 pub mod Stops
 pub mod Stores
 pub mod Ends

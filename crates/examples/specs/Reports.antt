@@ -4,13 +4,8 @@ use Rattle.registers.specs.declared.Outcome.TheVariants.{At, Fault, Done, Refuse
 use Rattle.line.specs.Text.{ascii}
 use Rattle.rows.specs.Rows.{signed, row_of, report_of, refused_text, unread_text}
 use Rattle.report.specs.Totals.{Booked, SERVED, LOADS, EMPTIED, CHANGE, within, booked_all}
-use Rattle.trace.specs.declared.Command.TheVariants.{Serve}
 use Rattle.report.specs.Gains.{gain, fault_gains, access_gains, store_gains}
-use Rattle.report.specs.Sums.{added}
 use Rattle.examples.specs.Claims.{Example, ◌gives◌}
-use Rattle.examples.specs.Walks.{good}
-use Rattle.examples.specs.Served.{machine}
-use Rattle.examples.specs.WrittenMarks.{edition2, other_frame, writing}
 
 unfoldable pub reports : List Example
 reports =
@@ -39,11 +34,6 @@ reports =
     ∷ (access_gains (Refused 5) 0 gives [])
     ∷ (store_gains (Done 2) (negsuc 0) gives gain EMPTIED (pos 2) ∷ gain CHANGE (negsuc 0) ∷ [])
     ∷ (store_gains (Refused 6) (pos 0) gives [])
-    -- a mark is a store of the access that makes it: here it empties one slot, which is booked under the access's context
-    ∷ (added (machine (edition2 0 7) other_frame good) (Serve writing) 5 EMPTIED gives pos 1)
-    ∷ (added (machine (edition2 0 7) other_frame good) (Serve writing) 4 EMPTIED gives pos 0)
-    ∷ (added (machine (edition2 0 7) other_frame good) (Serve writing) 5 SERVED gives pos 1)
-    ∷ (added (machine (edition2 0 7) other_frame good) (Serve writing) 5 LOADS gives pos 0)
     -- lines
     ∷ (signed (pos 0) gives ascii "0")
     ∷ (signed (negsuc 0) gives ascii "-1")

@@ -1,7 +1,7 @@
 -- The registers, buffers, accesses and answers that the examples are written with.
 use Rattle.std.specs.Prelude.{ℕ, ◌+◌, ◌*◌, Bool, true, false, List, [], ◌∷◌, replicate}
 use Rattle.entry.specs.Entry.{pack}
-use Rattle.registers.specs.Fields.{put, start_registers, CTRL, ENABLE, CONTEXT, SELECT, TLB_HI, CAUSE}
+use Rattle.registers.specs.Fields.{put, zero_registers, CTRL, ENABLE, CONTEXT, SELECT, TLB_HI, CAUSE}
 use Rattle.registers.specs.declared.Access.{Access}
 use Rattle.registers.specs.declared.Registers.{Registers}
 use Rattle.slots.specs.Buffer.{Buffer, with_slot}
@@ -15,9 +15,9 @@ use Rattle.mmu.specs.declared.RawReply.TheVariants.{Answered}
 pub data Field : Type 0 where
   reg : (place value : ℕ) → Field
 
--- registers of edition 1 that are 0 but for some
+-- registers that are 0 but for some
 unfoldable pub registers_with : List Field → Registers
-registers_with [] = start_registers 1
+registers_with [] = zero_registers
 registers_with (reg place value ∷ rest) = put (registers_with rest) place value
 
 -- enabled, with a context and CTRL

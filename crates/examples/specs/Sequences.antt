@@ -17,12 +17,12 @@ use Rattle.examples.specs.Scene.{reg, registers_with, enabled, started, user, su
 use Rattle.examples.specs.Walks.{good}
 use Rattle.examples.specs.Served.{machine, reading}
 
--- a start in an edition over a lent buffer that was not 0, and so many table words, all 0
+-- a start over a lent buffer that was not 0, and so many table words, all 0
 unfoldable pub lent : Buffer
 lent = Wide (replicate 64 0x123456789abcdef0)
 
-unfoldable pub fresh : (edition length : ℕ) → System
-fresh edition length = begun edition (start_reply edition lent) (started_buffer edition lent) (replicate length 0)
+unfoldable pub fresh : (length : ℕ) → System
+fresh length = begun (start_reply lent) (started_buffer lent) (replicate length 0)
 
 abbrev access : Access → Ask
 access a = Now (ToAccess a)
@@ -241,9 +241,7 @@ change_lines =
 
 unfoldable pub sequences : List Example
 sequences =
-    (lines_of (events_of (fresh 1 16384) worked) gives worked_lines)
-    -- in edition 2 its write is marked, and its lines are the same
-    ∷ (lines_of (events_of (fresh 2 2048) worked) gives worked_lines)
-    ∷ (lines_of (events_of (fresh 1 2048) (outcomes ++ strays)) gives outcome_lines ++ stray_lines)
-    ∷ (lines_of (events_of (fresh 1 2048) changes) gives change_lines)
+    (lines_of (events_of (fresh 16384) worked) gives worked_lines)
+    ∷ (lines_of (events_of (fresh 2048) (outcomes ++ strays)) gives outcome_lines ++ stray_lines)
+    ∷ (lines_of (events_of (fresh 2048) changes) gives change_lines)
     ∷ []

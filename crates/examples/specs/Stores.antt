@@ -3,7 +3,7 @@ use Rattle.std.specs.Prelude.{ℕ, ◌+◌, ◌^◌, Bool, true, false, List, []
 use Rattle.entry.specs.Entry.{pack}
 use Rattle.entry.specs.Empty.{empty_fields, empty_entry}
 use Rattle.entry.specs.declared.Entry.{Entry}
-use Rattle.registers.specs.Fields.{put, KSEG, CTRL, ENABLE, KBASE_LO, KBASE_HI, CONTEXT, SELECT, TLB_HI, TLB_LO, TEST, EDITION}
+use Rattle.registers.specs.Fields.{put, KSEG, CTRL, ENABLE, KBASE_LO, KBASE_HI, CONTEXT, SELECT, TLB_HI, TLB_LO, TEST}
 use Rattle.registers.specs.Replies.{refused, done}
 use Rattle.slots.specs.Buffer.Buffer.{Wide}
 use Rattle.store.specs.Rewrite.{Put}
@@ -94,8 +94,6 @@ stores =
     -- refused: in the table's order, and nothing changes
     ∷ (store_reply (machine (registers_with (reg SELECT 64 ∷ [])) (Wide []) []) (put-at 0 0)
     gives refused (registers_with (reg SELECT 64 ∷ [])) 1)
-    ∷ (store_reply (machine (registers_with (reg EDITION 3 ∷ [])) (Wide []) []) (put-at 0 0)
-    gives refused (registers_with (reg EDITION 3 ∷ [])) 1)
     ∷ (store_reply (machine (enabled 6 7) (Wide (replicate 63 0)) []) (put-at 0 0) gives refused (enabled 6 7) 2)
     ∷ (store_reply (machine (enabled 6 7) started (replicate 1536 0)) (put-at 1536 0) gives refused (enabled 6 7) 3)
     ∷ (store_reply (machine (enabled 6 7) started good) (put-at 2048 0) gives refused (enabled 6 7) 6)
@@ -126,7 +124,6 @@ guarded_settings =
     ∷ (setting_reply (enabled 5 7) TLB_LO 0 gives refused (enabled 5 7) 7)
     ∷ (setting_reply (enabled 5 7) TEST 0 gives refused (enabled 5 7) 7)
     ∷ (setting_reply (enabled 5 7) 10 0 gives refused (enabled 5 7) 7)
-    ∷ (setting_reply (enabled 5 7) EDITION 2 gives refused (enabled 5 7) 7)
     -- the registers are checked first; context 63 and test mode are no hindrance
     ∷ (setting_reply (registers_with (reg SELECT 64 ∷ [])) CONTEXT 63 gives refused (registers_with (reg SELECT 64 ∷ [])) 1)
     ∷ (setting_reply (put (enabled 63 7) TEST 1) CONTEXT 5 gives done (put (enabled 5 7) TEST 1) 0)

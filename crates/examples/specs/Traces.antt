@@ -44,12 +44,12 @@ worked_text =
 
 unfoldable pub traces : List Example
 traces =
-    (trace_text 1 lent worked_input gives worked_text)
+    (trace_text lent worked_input gives worked_text)
     -- empty input prints nothing; a last piece of 1 to 7 bytes is one refused record
-    ∷ (trace_text 1 lent [] gives [])
-    ∷ (trace_text 1 lent (0 ∷ []) gives ascii "0 refused 00000008 0\n")
+    ∷ (trace_text lent [] gives [])
+    ∷ (trace_text lent (0 ∷ []) gives ascii "0 refused 00000008 0\n")
     -- table memory has 16,384 words: the last one is stored, and there is none behind it
-    ∷ (trace_text 1 lent (encoded 8 (0x10003FFF00000000 ∷ 0x1000400000000000 ∷ [])) gives ascii "0 done 00000000 0\n1 refused 00000006 0\n")
+    ∷ (trace_text lent (encoded 8 (0x10003FFF00000000 ∷ 0x1000400000000000 ∷ [])) gives ascii "0 done 00000000 0\n1 refused 00000006 0\n")
     ∷ (commands_of (encoded 8 (0x7000000000000001 ∷ []) ++ encoded 7 (0x70000000000000 ∷ [])) gives Set ENABLE 1 ∷ Malformed ∷ [])
     -- each kind, its other fields at their ends
     ∷ (command_of 0x0F000000FFFFFFFF gives Serve (user true 0xFFFFFFFF 3))

@@ -1,27 +1,26 @@
 -- Any list of requests of a host, each put to the bytes of its moment, with any refused calls between them, is such a run. Assumes nothing.
-use Prim.Native.Nat.{ℕ, zero, suc, ◌+◌, ◌*◌, ◌/◌, ◌%◌, ◌<◌}
+use Prim.Native.Nat.{ℕ, zero, suc, ◌/◌, ◌%◌, ◌<◌}
 use mathlib.Core.Path.{◌≡◌, refl, sym, subst}
 use mathlib.Core.Bool.{Bool, true, false, cond}
 use mathlib.Core.List.{List, [], ◌∷◌, ◌++◌}
 use native.Mathlib.Omega.{arith}
 use lib.Dec.{eqb}
-use lib.ListN.{take, drop}
 use Rattle.runs.proofs.Bools.{clash}
-use Rattle.wire.specs.Wire.{bytes_of, encoded, with_element, AreBytes}
+use Rattle.wire.specs.Wire.{bytes_of, encoded, AreBytes}
 use Rattle.registers.specs.Refusals.{by_refusal}
 use Rattle.registers.specs.declared.Access.{Access}
 use Rattle.slots.specs.Buffer.{Buffer}
 use Rattle.slots.specs.Buffer.Buffer.{Wide}
 use Rattle.store.specs.Rewrite.{Put}
-use Rattle.mmu_c.specs.Runs.{buffer_bytes, table_bytes}
-use Rattle.mmu_c.specs.ServedAccess.{served_bytes, served_tables}
-use Rattle.mmu_c.specs.TableStore.{store_bytes, store_tables}
+use Rattle.mmu_c.specs.Runs.{buffer_bytes}
+use Rattle.mmu_c.specs.ServedAccess.{served_bytes}
+use Rattle.mmu_c.specs.TableStore.{store_bytes}
 use Rattle.sequence.specs.Requests.Request.{ToAccess, ToStore, ToSet}
 use Rattle.hosts.specs.Bytes.{Bytes}
 use Rattle.hosts.specs.HostCalls.{HostCall, host_accepts, Typed, handed_bytes, HostPromise}
 use Rattle.hosts.specs.HostCalls.HostCall.{HostAccess, HostStore, HostSetting}
 use Rattle.hosts.specs.Hosts.{HostEvent, bytes_after, HostHanded, HostThroughout}
-use Rattle.hosts.specs.Asking.{HostAsk, call_with, event_with, raw_event_with, run_of, Askable, EveryListRuns}
+use Rattle.hosts.specs.Asking.{call_with, event_with, raw_event_with, run_of, Askable, EveryListRuns}
 use Rattle.hosts.specs.Asking.HostAsk.{Now, Stray, StrayRaw}
 
 -- ---- what is encoded is bytes
@@ -49,23 +48,6 @@ buffer-bytes : (b : Buffer) → AreBytes (buffer_bytes b)
 unfolding buffer_bytes
 buffer-bytes (Wide numbers) = encoded-bytes 8 numbers
 
-take-bytes : (n : ℕ) (xs : List ℕ) → AreBytes xs → AreBytes (take n xs)
-take-bytes zero xs h i l = absurd (omega arith)
-take-bytes (suc n) [] h i l = h i l
-take-bytes (suc n) (x ∷ xs) h zero l = h zero (omega arith)
-take-bytes (suc n) (x ∷ xs) h (suc i) l = take-bytes n xs (λ j m. h (suc j) (omega arith)) i (omega arith)
-
-drop-bytes : (n : ℕ) (xs : List ℕ) → AreBytes xs → AreBytes (drop n xs)
-drop-bytes zero xs h = h
-drop-bytes (suc n) [] h = h
-drop-bytes (suc n) (x ∷ xs) h = drop-bytes n xs (λ j m. h (suc j) (omega arith))
-
-with-bytes : (w : ℕ) (bytes : List ℕ) (i x : ℕ) → AreBytes bytes → AreBytes (with_element w bytes i x)
-unfolding with_element
-with-bytes w bytes i x h =
-    append-bytes (take (w * i) bytes) _ (take-bytes (w * i) bytes h)
-    (append-bytes (bytes_of w x) _ (number-bytes w x) (drop-bytes (w * i + w) bytes h))
-
 either-bytes : (n : ℕ) (xs ys : List ℕ) → AreBytes xs → AreBytes ys → AreBytes (by_refusal n xs ys)
 unfolding by_refusal
 either-bytes n xs ys h k = by-test (eqb n 0)
@@ -84,7 +66,7 @@ event-call now (HostSetting given number value) = refl
 
 event-promised : (now : Bytes) (c : HostCall) → HostPromise now c (event_with now c).answer (event_with now c).after
 unfolding HostPromise event_with
-event-promised now (HostAccess given a) = record { answer-is = refl; registers-are = refl; buffer-is = refl; tables-are = refl }
+event-promised now (HostAccess given a) = (record { answer-is = refl; registers-are = refl; buffer-is = refl }, refl)
 event-promised now (HostStore given p) = (record { answer-is = refl; buffer-is = refl; tables-are = refl }, refl)
 event-promised now (HostSetting given number value) = (record { answer-is = refl; registers-are = refl }, refl, refl)
 
@@ -97,56 +79,51 @@ handed-one now c t h = record {
   typed = subst Typed (sym (event-call now c)) t;
 }
 
--- the buffer and the tables of the next moment are bytes
-abbrev pub RunsAreBytes : Bytes → Type 0
-RunsAreBytes h = AreBytes h.buffer × AreBytes h.tables
-
-kept-bytes : (now : Bytes) (e : HostEvent) → RunsAreBytes now → RunsAreBytes e.after → RunsAreBytes (bytes_after now e)
+-- the bytes of the next moment are bytes
+kept-bytes : (now : Bytes) (e : HostEvent) → AreBytes now.buffer → AreBytes e.after.buffer → AreBytes (bytes_after now e).buffer
 unfolding bytes_after
 kept-bytes now e h k = by-test (host_accepts e.call)
   where
-    by-test : (t : Bool) → RunsAreBytes (cond t e.after now)
+    by-test : (t : Bool) → AreBytes (cond t e.after now).buffer
     by-test true = k
     by-test false = h
 
-refused-bytes : (now : Bytes) (c : HostCall) → RunsAreBytes now → host_accepts c ≡ false
-    → RunsAreBytes (bytes_after now (event_with now c))
+refused-bytes : (now : Bytes) (c : HostCall) → AreBytes now.buffer → host_accepts c ≡ false
+    → AreBytes (bytes_after now (event_with now c)).buffer
 unfolding bytes_after
 refused-bytes now c h no' = rw (event-call now c, no') h
 
-access-bytes : (now : Bytes) (a : Access) → RunsAreBytes now → RunsAreBytes (event_with now (HostAccess now a)).after
-unfolding event_with served_bytes served_tables table_bytes
-access-bytes now a h = (either-bytes _ _ _ (buffer-bytes _) h.0, either-bytes _ _ _ (encoded-bytes 4 _) h.1)
+access-bytes : (now : Bytes) (a : Access) → AreBytes now.buffer
+    → AreBytes (served_bytes now.registers now.buffer now.tables a)
+unfolding served_bytes
+access-bytes now a h = either-bytes _ _ _ (buffer-bytes _) h
 
-store_bytes_lem : (now : Bytes) (p : Put) → RunsAreBytes now → RunsAreBytes (event_with now (HostStore now p)).after
-unfolding event_with store_bytes store_tables
-store_bytes_lem now p h = (either-bytes _ _ _ (buffer-bytes _) h.0, either-bytes _ _ _ (with-bytes 4 _ _ _ h.1) h.1)
+store_bytes_lem : (now : Bytes) (p : Put) → AreBytes now.buffer → AreBytes (store_bytes now.registers now.buffer now.tables p)
+unfolding store_bytes
+store_bytes_lem now p h = either-bytes _ _ _ (buffer-bytes _) h
 
 -- ---- the list
 
-run-bytes : (now : Bytes) → RunsAreBytes now → (qs : List HostAsk) → Askable qs → HostThroughout now (run_of now qs)
-unfolding HostThroughout run_of Askable call_with event_with raw_event_with Typed handed_bytes
-run-bytes now h [] t = tt
-run-bytes now h (Now (ToAccess a) ∷ qs) t = (
-  handed-one now (HostAccess now a) (h.0, h.1, omega (arith, t.0)) (λ _. refl),
-  run-bytes _ (kept-bytes now (event_with now (HostAccess now a)) h (access-bytes now a h)) qs t.1,
-)
-run-bytes now h (Now (ToStore p) ∷ qs) t = (
-  handed-one now (HostStore now p) (h.0, omega (arith, t.0)) (λ _. refl),
-  run-bytes _ (kept-bytes now (event_with now (HostStore now p)) h (store_bytes_lem now p h)) qs t.1,
-)
-run-bytes now h (Now (ToSet number value) ∷ qs) t = (
-  handed-one now (HostSetting now.registers number value) tt (λ _. refl),
-  run-bytes _ (kept-bytes now (event_with now (HostSetting now.registers number value)) h h) qs t,
-)
-run-bytes now h (Stray c ∷ qs) t = (
-  handed-one now c t.0 (λ ok. absurd (clash ok t.1)),
-  run-bytes _ (refused-bytes now c h t.1) qs t.2,
-)
-run-bytes now h (StrayRaw registers buffer a ∷ qs) t = (
-  record { is-refused = t.0; promised = record { answer-is = refl; registers-are = refl } },
-  run-bytes now h qs t.1,
-)
-
 pub every-list-runs : EveryListRuns
-every-list-runs now b w qs t = run-bytes now (b, w) qs t
+unfolding HostThroughout run_of Askable call_with event_with raw_event_with Typed handed_bytes
+every-list-runs now h [] t = tt
+every-list-runs now h (Now (ToAccess a) ∷ qs) t = (
+  handed-one now (HostAccess now a) (h, omega (arith, t.0)) (λ _. refl),
+  every-list-runs _ (kept-bytes now (event_with now (HostAccess now a)) h (access-bytes now a h)) qs t.1,
+)
+every-list-runs now h (Now (ToStore p) ∷ qs) t = (
+  handed-one now (HostStore now p) (h, omega (arith, t.0)) (λ _. refl),
+  every-list-runs _ (kept-bytes now (event_with now (HostStore now p)) h (store_bytes_lem now p h)) qs t.1,
+)
+every-list-runs now h (Now (ToSet number value) ∷ qs) t = (
+  handed-one now (HostSetting now.registers number value) tt (λ _. refl),
+  every-list-runs _ (kept-bytes now (event_with now (HostSetting now.registers number value)) h h) qs t,
+)
+every-list-runs now h (Stray c ∷ qs) t = (
+  handed-one now c t.0 (λ ok. absurd (clash ok t.1)),
+  every-list-runs _ (refused-bytes now c h t.1) qs t.2,
+)
+every-list-runs now h (StrayRaw registers buffer a ∷ qs) t = (
+  record { is-refused = t.0; promised = record { answer-is = refl; registers-are = refl } },
+  every-list-runs now h qs t.1,
+)

@@ -10,6 +10,7 @@ use Rattle.control.proofs.CallLaws.{start_gives}
 use Rattle.table_bytes.specs.TableBytes.{words_of}
 use Rattle.mmu_c.specs.Runs.{buffer_of, machine_of}
 use Rattle.mmu_c.specs.Answers.{reply_answer}
+use Rattle.mmu_c.proofs.Locations.{buffer-fits}
 use Rattle.sequence.specs.Calls.{Event, accepted, handed, left_by}
 use Rattle.sequence.specs.Asks.{event_of}
 use Rattle.sequence.specs.Systems.{System, begun, system_after}
@@ -25,7 +26,7 @@ use Rattle.hosts.specs.Hosts.{HostAnswered, AnsweredThroughout, host_system, Sta
 use Rattle.hosts.proofs.Trips.{words-fit}
 use Rattle.hosts.proofs.HostCalls.{host-calls-are-calls, refused-leave-all, length-not-accepted}
 use Rattle.hosts.specs.Hosts.HostStep.{Called, RawRefused}
-use Rattle.hosts.proofs.Start.{known, unit-accepts, starts-are-starts}
+use Rattle.hosts.proofs.Start.{starts-are-starts}
 use Rattle.hosts.proofs.RawAccess.{refused-raw-access-leaves-all}
 
 -- what the unit's call is handed is the machine in the bytes that the host's call is handed
@@ -145,27 +146,23 @@ ran now s (Called e ∷ es) q h =
 
 -- ---- from the start
 
-begins : (edition : ℕ) (buffer : List ℕ) (started : Bytes) → Started edition buffer started
-    → machine_in started ≡ (host_system edition buffer started.tables).machine
+begins : (buffer : List ℕ) (started : Bytes) → Started buffer started → machine_in started ≡ (host_system buffer started.tables).machine
 unfolding machine_in machine_of host_system begun
-begins edition buffer started s =
-    let u =
-    starts-are-starts edition s.registers buffer s.answer started.registers started.buffer s.accepted s.promised in
+begins buffer started s =
+    let u = starts-are-starts s.registers buffer s.answer started.registers started.buffer s.accepted s.promised in
     λ j. record { registers = u.registers-are j; buffer = u.buffer-is j; words = words_of started.tables }
 
 pub hosts-are-sequences : HostsAreSequences
 unfolding Demand3 host_system
-hosts-are-sequences edition buffer started s es h =
-    let first = host_system edition buffer started.tables in
-    let q = begins edition buffer started s in
-    let r = ran started first es q h in
+hosts-are-sequences buffer started s es h =
+    let q = begins buffer started s in
+    let r = ran started (host_system buffer started.tables) es q h in
     record {
       is-sequence = r.is-sequence;
       demand3-holds =
-          demand3 edition (buffer_of buffer) (started_buffer edition (buffer_of buffer)) (start_reply edition (buffer_of buffer))
-          (words_of started.tables) (unit-accepts edition buffer (known edition s.registers buffer s.accepted))
-          (start_gives edition (buffer_of buffer) _ _ refl refl) (words-fit started.tables s.tables-long)
-          (host_events first es) r.is-sequence;
+          demand3 (buffer_of buffer) (started_buffer (buffer_of buffer)) (start_reply (buffer_of buffer)) (words_of started.tables)
+          (buffer-fits buffer) (start_gives (buffer_of buffer) _ _ refl refl) (words-fit started.tables s.tables-long)
+          (host_events (host_system buffer started.tables) es) r.is-sequence;
       starts = q;
       answers-are = r.answers-are;
       machine-is = r.machine-is;

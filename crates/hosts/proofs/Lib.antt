@@ -1,11 +1,9 @@
 pub mod Trips
 pub mod Handed
-pub mod Stores
-pub mod MarkedTables
 pub mod Accesses
+pub mod Stores
 pub mod Settings
 pub mod HostCalls
-pub mod Marks
 pub mod Start
 pub mod RawAccess
 pub mod AnswerBits

@@ -19,10 +19,11 @@ use Rattle.control.specs.Starting.{start_reply, started_buffer}
 use Rattle.control.proofs.CallLaws.{start_gives}
 use Rattle.store.specs.Machine.{Machine}
 use Rattle.table_bytes.specs.TableBytes.{words_of}
-use Rattle.mmu.specs.ServedAccess.{walk_for, access_reply, marked_reply, served_refusal, served_reply}
+use Rattle.mmu.specs.ServedAccess.{walk_for, access_reply, served_refusal, served_reply}
 use Rattle.mmu.specs.FaultValues.{IsFault}
 use Rattle.mmu_c.specs.FaultAnswers.{FaultRead}
 use Rattle.mmu_c.specs.Runs.{buffer_of}
+use Rattle.mmu_c.proofs.Locations.{buffer-fits}
 use Rattle.sequence.specs.Calls.{Event, refusal, accepted}
 use Rattle.sequence.specs.Calls.Call.{ServedAccess}
 use Rattle.sequence.specs.Asks.{event_of}
@@ -45,7 +46,6 @@ use Rattle.hosts.proofs.Trips.{words-fit}
 use Rattle.hosts.proofs.Bounds.{AddressWithin, access-address}
 use Rattle.hosts.proofs.HostCalls.{host-calls-are-calls, length-not-accepted}
 use Rattle.hosts.proofs.Reading.{answers-read, refusals-read}
-use Rattle.hosts.proofs.Start.{known, unit-accepts}
 use Rattle.hosts.proofs.Hosts.{hosts-are-sequences}
 
 -- ---- the last of some calls, as an event behind others
@@ -107,18 +107,17 @@ module _ (now given : Bytes) (a : Access) (answer : ℕ) (after : Bytes) (t : Ty
   accessed = record {
     is_read = answers-read now (HostAccess given a) answer after t right g;
     is-accepted = sym (host-calls-are-calls now (HostAccess given a) answer after t right g).refusal_is ∙ not-refused;
-    narrow = omega (arith, t.2);
+    narrow = omega (arith, t.1);
   }
 
 -- ---- from what the access replied to what is read
 
 module _ (m : Machine) (a : Access) (answer : ℕ) (d : Accessed m a answer) where
-  reply-is : served_reply m a ≡ marked_reply m a
+  reply-is : served_reply m a ≡ access_reply m a
   unfolding served_reply by_refusal
   reply-is = rw (eq-eqb (served_refusal m a) 0 d.is-accepted)
 
   read : OutcomeRead (access_reply m a).outcome (access_reply m a).loads answer
-  unfolding marked_reply
   read = subst (λ (r : Reply). OutcomeRead r.outcome r.loads answer) reply-is d.is_read
 
   address-or-fault : AddressWithin (access_reply m a).outcome
@@ -163,7 +162,7 @@ module _ (m : Machine) (a : Access) (answer : ℕ) (d : Accessed m a answer) whe
   fault-between low high (Refused number) loads r w = absurd w
 
   from-tables : FromTables m a (served_reply m a).outcome → ReadFromTables m a answer
-  unfolding marked_reply found_leaf
+  unfolding found_leaf
   from-tables f =
       let h = subst (λ (r : Reply). FromTables m a r.outcome) reply-is f in
       record {
@@ -173,7 +172,7 @@ module _ (m : Machine) (a : Access) (answer : ℕ) (d : Accessed m a answer) whe
       }
 
   if-aged : RaisedIfAged m a (served_reply m a).outcome → ReadIfAged m a answer
-  unfolding marked_reply RaisedIfAged ReadIfAged IsFault
+  unfolding RaisedIfAged ReadIfAged IsFault
   if-aged raised f leaf aged =
       let h = subst (λ (r : Reply). InvalidPageRaised m r.outcome) reply-is (raised f leaf aged) in
       record {
@@ -204,9 +203,9 @@ after_any : (Says : (m : Machine) (a : Access) (outcome : Outcome) → Type 0) (
     → ((m : Machine) (a : Access) (answer : ℕ) → Accessed m a answer → Says m a (served_reply m a).outcome → Reads m a answer)
     → AfterAnyCalls Reads
 unfolding AfterAnySequence AfterAnyCalls host_system event_of
-after_any Says Reads always reads edition buffer started st earlier last h given a is z by =
-    let s = host_system edition buffer started.tables in
-    let run = hosts-are-sequences edition buffer started st (earlier ++ (Called last ∷ [])) h in
+after_any Says Reads always reads buffer started st earlier last h given a is z by =
+    let s = host_system buffer started.tables in
+    let run = hosts-are-sequences buffer started st (earlier ++ (Called last ∷ [])) h in
     let now = bytes_after_all started earlier in
     let hh = last-handed started earlier last h in
     let t = subst Typed is hh.typed in
@@ -217,9 +216,8 @@ after_any Says Reads always reads edition buffer started st earlier last h given
     let u = unit_event (system_after_calls s earlier) last in
     reads (machine_in given) a last.answer d
     (subst (λ (x : Event). Says (machine_in given) a x.reply.outcome) (event-is (system_after_calls s earlier) last given a is)
-    (always edition (buffer_of buffer) (started_buffer edition (buffer_of buffer)) (start_reply edition (buffer_of buffer))
-    (words_of started.tables) (unit-accepts edition buffer (known edition st.registers buffer st.accepted))
-    (start_gives edition (buffer_of buffer) _ _ refl refl) (words-fit started.tables st.tables-long)
+    (always (buffer_of buffer) (started_buffer (buffer_of buffer)) (start_reply (buffer_of buffer)) (words_of started.tables)
+    (buffer-fits buffer) (start_gives (buffer_of buffer) _ _ refl refl) (words-fit started.tables st.tables-long)
     (host_events s earlier) u k (machine_in given) a (call-is (system_after_calls s earlier) last given a is)
     (call-accepted (system_after_calls s earlier) last given a is d.is-accepted) by))
 

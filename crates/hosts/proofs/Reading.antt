@@ -9,7 +9,6 @@ use borrow.Author.Tests.{eq-eqb, ne_eqb, eqb-true, ltb-true, lt-ltb}
 use Rattle.runs.proofs.Bools.{clash}
 use Rattle.runs.proofs.Counts.{count-le}
 use Rattle.runs.specs.Bits.{bits}
-use Rattle.registers.specs.Fields.{edition_fits}
 use Rattle.registers.specs.Refusals.{by_refusal}
 use Rattle.registers.specs.Replies.{refused, done}
 use Rattle.registers.specs.declared.Access.{Access}
@@ -26,7 +25,7 @@ use Rattle.store.specs.Rewrite.{Put}
 use Rattle.store.specs.Sweep.{kept_at, emptied}
 use Rattle.store.specs.TableStore.{stored_words, store_reply}
 use Rattle.control.specs.Setting.{setting_reply}
-use Rattle.mmu.specs.ServedAccess.{access_reply, marked_reply, served_reply}
+use Rattle.mmu.specs.ServedAccess.{access_reply, served_reply}
 use Rattle.mmu.specs.FaultValues.{IfFault}
 use Rattle.mmu_c.specs.Runs.{registers_of, buffer_of, registers_long, buffer_taken}
 use Rattle.mmu_c.specs.Answers.{raw_answer, translation_answer, outcome_answer, reply_answer, outcome_fits}
@@ -119,8 +118,8 @@ CallRead now c =
     OutcomeRead reply.outcome reply.loads (reply_answer reply) × (host_refusal c ≡ 0 → bits 63 56 (reply_answer reply) ≡ 0)
 
 module _ (m : Machine) (a : Access) (al : a.address < 4294967296) where
-  access-reply-read : ReplyRead (marked_reply m a).outcome (marked_reply m a).loads (reply_answer (marked_reply m a))
-  unfolding marked_reply reply_answer
+  access-reply-read : ReplyRead (access_reply m a).outcome (access_reply m a).loads (reply_answer (access_reply m a))
+  unfolding reply_answer
   access-reply-read =
       let f = access-fits m a in
       carried-read (access_reply m a).outcome (access_reply m a).loads
@@ -137,7 +136,7 @@ few-emptied m p = omega (arith, count-le (λ slot. not (kept_at (stored_words m 
 call-read : (now : Bytes) (c : HostCall) → Typed c → host_refusal c ≡ refusal (call_in c) → CallRead now c
 unfolding CallRead Typed host_refusal call_in event_in event_of refusal served_reply store_reply setting_reply
 call-read now (HostAccess given a) t same =
-    let k = access-reply-read (machine_in given) a (omega (arith, t.2)) in
+    let k = access-reply-read (machine_in given) a (omega (arith, t.1)) in
     let l = access-lt given.registers given.buffer given.tables a _ (sym same) in
     (either-read _ _ _ l k, λ z. accepted-read _ _ _ l k (sym same ∙ z))
 call-read now (HostStore given p) t same =
@@ -185,16 +184,15 @@ refusals-read now c answer after t g = by-test (host_accepts c) refl (right_leng
 
 -- ---- a start, and a raw access
 
-start-lt : (edition : ℕ) (registers buffer : List ℕ) → start_refusal edition registers buffer < 256
+start-lt : (registers buffer : List ℕ) → start_refusal registers buffer < 256
 unfolding start_refusal
-start-lt edition registers buffer =
-    refusal-room (registers_long registers) 1 _ (omega arith) (refusal-room (edition_fits edition) 1 _ (omega arith)
-    (refusal-room (buffer_taken buffer) 2 0 (omega arith) (omega arith)))
+start-lt registers buffer =
+    refusal-room (registers_long registers) 1 _ (omega arith) (refusal-room (buffer_taken buffer) 2 0 (omega arith) (omega arith))
 
 pub starts-read : StartsRead
 unfolding start_number
-starts-read edition registers buffer answer registers-after buffer-after g =
-    rw g.answer-is (refusal-read (start_refusal edition registers buffer) (start-lt edition registers buffer))
+starts-read registers buffer answer registers-after buffer-after g =
+    rw g.answer-is (refusal-read (start_refusal registers buffer) (start-lt registers buffer))
 
 module _ (t : Translation) where
   raw_at : (address : ℕ) → t.physical ≡ Address address → address < 4294967296 → t.value < 65536

@@ -9,19 +9,19 @@ use lib.Dec.{eqb}
 use borrow.Author.Tests.{eqb-true, leb-true}
 use Rattle.wire.specs.Wire.{decoded, with_element}
 use Rattle.wire.proofs.Elements.{decoded-length, decoded-with}
-use Rattle.registers.specs.Fields.{from_words, put, FIELDS}
+use Rattle.registers.specs.Fields.{from_words, put}
 use Rattle.registers.specs.Refusals.{by_refusal}
 use Rattle.registers.specs.Replies.{refused, done}
 use Rattle.registers.proofs.Fields.{to-from}
 use Rattle.registers.specs.declared.Registers.{Registers}
 use Rattle.control.specs.Setting.{is_guarded, setting_refusal, setting_reply}
-use Rattle.mmu_c.specs.Runs.{REGISTER_BYTES, registers_of, registers_long, registers_taken}
+use Rattle.mmu_c.specs.Runs.{registers_of, registers_long, registers_taken}
 use Rattle.mmu_c.specs.Answers.{refusal_answer, reply_answer}
 use Rattle.mmu_c.specs.GuardedSetting.{setting_number, setting_registers, GuardedSettingGives}
 use Rattle.mmu_c.specs.GuardedSetting.{setting_refusal as host_refusal}
 use Rattle.mmu_c.proofs.SettingLaws.{answer-number}
 use Rattle.sequence.proofs.Taking.{setting-accepted}
-use Rattle.hosts.proofs.Trips.{field_room}
+use Rattle.hosts.proofs.Trips.{register-room}
 
 module _ (given : List ℕ) (number value : ℕ) (long : registers_long given ≡ true) where
   abbrev r : Registers
@@ -37,10 +37,9 @@ module _ (given : List ℕ) (number value : ℕ) (long : registers_long given �
   put-bytes z =
       let t = setting-accepted r number value z in
       let l = leb-true number 5 t.is-guarded in
-      let room = field_room number value (omega arith) t.value-fits in
-      let e = eqb-true (length given) REGISTER_BYTES long in
-      ap from_words (decoded-with 4 given FIELDS number value (omega arith) (omega arith) (omega arith))
-      ∙ ap (λ (ws : List ℕ). from_words (set ws number value)) (sym (to-from (decoded 4 given FIELDS) (decoded-length 4 given FIELDS)))
+      let room = register-room number value (omega arith) t.value-fits in
+      ap from_words (decoded-with 4 given 11 number value (omega arith) (omega (arith, eqb-true (length given) 44 long)) (omega arith))
+      ∙ ap (λ (ws : List ℕ). from_words (set ws number value)) (sym (to-from (decoded 4 given 11) (decoded-length 4 given 11)))
 
   module _ (answer : ℕ) (after : List ℕ) (g : GuardedSettingGives given number value answer after) where
     pub setting-answer : answer ≡ reply_answer (setting_reply r number value)

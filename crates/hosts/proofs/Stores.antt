@@ -36,7 +36,7 @@ unfolding settled
 settled-within true slot b w = w
 settled-within false slot b w = slot-within b slot _ w
 
-pub swept-within : (words : List ℕ) (n : ℕ) (b : Buffer) → BufferWithin b → BufferWithin (swept_first words n b)
+swept-within : (words : List ℕ) (n : ℕ) (b : Buffer) → BufferWithin b → BufferWithin (swept_first words n b)
 unfolding swept_first swept_slot
 swept-within words zero b w = w
 swept-within words (suc n) b w = settled-within _ n (swept_first words n b) (swept-within words n b w)

@@ -3,7 +3,7 @@ use Rattle.std.specs.Prelude.{ℕ, ◌^◌, ◌<◌, ◌≡◌, false, List, [],
 use Rattle.registers.specs.declared.Access.{Access}
 use Rattle.wire.specs.Wire.{AreBytes}
 use Rattle.mmu_c.specs.RawAccess.{raw_refusal, raw_number, raw_registers}
-use Rattle.mmu_c.specs.ServedAccess.{served_number, served_registers, served_bytes, served_tables}
+use Rattle.mmu_c.specs.ServedAccess.{served_number, served_registers, served_bytes}
 use Rattle.mmu_c.specs.TableStore.{store_number, store_bytes, store_tables}
 use Rattle.mmu_c.specs.GuardedSetting.{setting_number, setting_registers}
 use Rattle.sequence.specs.Requests.{Request}
@@ -33,7 +33,7 @@ event_with now (HostAccess given a) = record {
   after = record {
     registers = served_registers given.registers given.buffer given.tables a;
     buffer = served_bytes given.registers given.buffer given.tables a;
-    tables = served_tables given.registers given.buffer given.tables a;
+    tables = given.tables;
   };
 }
 event_with now (HostStore given p) = record {
@@ -80,5 +80,4 @@ Askable (Stray c ∷ qs) = Typed c × (host_accepts c ≡ false) × Askable qs
 Askable (StrayRaw registers buffer a ∷ qs) = (raw_refusal registers buffer a ≡ 0 → ⊥) × Askable qs
 
 abbrev pub EveryListRuns : Type 0
-EveryListRuns = (now : Bytes) → AreBytes now.buffer → AreBytes now.tables → (qs : List HostAsk) → Askable qs
-    → HostThroughout now (run_of now qs)
+EveryListRuns = (now : Bytes) → AreBytes now.buffer → (qs : List HostAsk) → Askable qs → HostThroughout now (run_of now qs)

@@ -1,6 +1,6 @@
 -- The calls of a C host with all that they are handed, and the unit's call that each of them is.
-use Rattle.std.specs.Prelude.{ℕ, ◌^◌, ◌≤◌, ◌<◌, ◌≡◌, Bool, true, false, ◌&&◌, List, eqb, length}
-use Rattle.wire.specs.Wire.{number_at, AreBytes}
+use Rattle.std.specs.Prelude.{ℕ, ◌^◌, ◌≤◌, ◌<◌, ◌≡◌, Bool, true, false, ◌&&◌, List, eqb}
+use Rattle.wire.specs.Wire.{AreBytes}
 use Rattle.registers.specs.declared.Access.{Access}
 use Rattle.store.specs.Rewrite.{Put}
 use Rattle.mmu_c.specs.Runs.{registers_of, registers_long, buffer_taken, tables_taken}
@@ -37,9 +37,9 @@ right_lengths (HostAccess given a) = long_right given
 right_lengths (HostStore given p) = long_right given
 right_lengths (HostSetting given number value) = registers_long given
 
--- what its C types say of a call: the numbers of a run that it writes are bytes, and a word has 32 bits
+-- what its C types say of a call: the buffer's numbers are bytes, and a word has 32 bits
 unfoldable pub Typed : HostCall → Type 0
-Typed (HostAccess given a) = AreBytes given.buffer × AreBytes given.tables × (a.address < 2 ^ 32)
+Typed (HostAccess given a) = AreBytes given.buffer × (a.address < 2 ^ 32)
 Typed (HostStore given p) = AreBytes given.buffer × (p.value < 2 ^ 32)
 Typed (HostSetting given number value) = Unit {0}
 
@@ -49,11 +49,12 @@ handed_bytes now (HostAccess given a) = given
 handed_bytes now (HostStore given p) = given
 handed_bytes now (HostSetting given number value) = record { registers = given; buffer = now.buffer; tables = now.tables }
 
--- The promise that the C function's own contract makes of a call. A store is lent the registers for reading alone; a guarded setting takes
--- registers alone.
+-- The promise that the C function's own contract makes of a call. A served access is lent the tables for reading alone, a store the
+-- registers; a guarded setting takes registers alone.
 unfoldable pub HostPromise : Bytes → HostCall → (answer : ℕ) (after : Bytes) → Type 0
 HostPromise now (HostAccess given a) answer after =
-    ServedAccessGives given.registers given.buffer given.tables a answer after.registers after.buffer after.tables
+    ServedAccessGives given.registers given.buffer given.tables a answer after.registers after.buffer
+    × (after.tables ≡ given.tables)
 HostPromise now (HostStore given p) answer after =
     TableStoreGives given.registers given.buffer given.tables p answer after.buffer after.tables
     × (after.registers ≡ given.registers)
@@ -88,20 +89,6 @@ pub record LeftAlone (now : Bytes) (c : HostCall) (answer : ℕ) (after : Bytes)
 abbrev pub RefusedLeaveAll : Type 0
 RefusedLeaveAll = (now : Bytes) (c : HostCall) (answer : ℕ) (after : Bytes) → host_accepts c ≡ false
     → HostPromise now c answer after → LeftAlone now c answer after
-
--- Registers of another length than 48 bytes are refused with 1, and so are those whose edition, the number at byte 44, is 0 or above 2.
-unfoldable pub registers_given : HostCall → List ℕ
-registers_given (HostAccess given a) = given.registers
-registers_given (HostStore given p) = given.registers
-registers_given (HostSetting given number value) = given
-
-pub record RegistersRefused (c : HostCall) : Type 0 where
-  pub other_length : (length (registers_given c) ≡ 48 → ⊥) → host_refusal c ≡ 1
-  pub edition-0 : number_at 4 (registers_given c) 44 ≡ 0 → host_refusal c ≡ 1
-  pub edition-above-2 : 2 < number_at 4 (registers_given c) 44 → host_refusal c ≡ 1
-
-abbrev pub WrongRegistersRefused : Type 0
-WrongRegistersRefused = (c : HostCall) → RegistersRefused c
 
 -- a wrong length is refused, with 1, 2 or 3
 abbrev pub WrongLengthsRefused : Type 0

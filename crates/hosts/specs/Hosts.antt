@@ -88,28 +88,28 @@ AnsweredThroughout now s (Called e ∷ es) = HostAnswered now s e × AnsweredThr
 AnsweredThroughout now s (RawRefused r ∷ es) =
     RawLeftAlone r.registers r.buffer r.access r.answer r.after × AnsweredThroughout now s es
 
--- the start in an edition over the buffer's bytes, with the words of the tables' bytes
-unfoldable pub host_system : (edition : ℕ) (buffer tables : List ℕ) → System
-host_system edition buffer tables =
-    begun edition (start_reply edition (buffer_of buffer)) (started_buffer edition (buffer_of buffer)) (words_of tables)
+-- the start over the buffer's bytes, with the words of the tables' bytes
+unfoldable pub host_system : (buffer tables : List ℕ) → System
+host_system buffer tables = begun (start_reply (buffer_of buffer)) (started_buffer (buffer_of buffer)) (words_of tables)
 
 -- The calls with right lengths are a sequence of which demand 3 speaks; each answers its event's reply, and the last bytes hold the last
 -- machine.
-pub record HostIsSequence (first : System) (started : Bytes) (es : List HostStep) : Type 0 where
-  pub is-sequence : HandedThroughout first (host_events first es)
-  pub demand3-holds : HoldsThroughout first Start (host_events first es)
-  pub starts : machine_in started ≡ first.machine
-  pub answers-are : AnsweredThroughout started first es
-  pub machine-is : machine_in (bytes_after_all started es) ≡ (system_after_all first (host_events first es)).machine
+pub record HostIsSequence (buffer : List ℕ) (started : Bytes) (es : List HostStep) : Type 0 where
+  pub is-sequence : HandedThroughout (host_system buffer started.tables) (host_events (host_system buffer started.tables) es)
+  pub demand3-holds : HoldsThroughout (host_system buffer started.tables) Start (host_events (host_system buffer started.tables) es)
+  pub starts : machine_in started ≡ (host_system buffer started.tables).machine
+  pub answers-are : AnsweredThroughout started (host_system buffer started.tables) es
+  pub machine-is : machine_in (bytes_after_all started es)
+      ≡ (system_after_all (host_system buffer started.tables) (host_events (host_system buffer started.tables) es)).machine
 
--- what an accepted start in an edition leaves in any bytes, with tables of a length that the calls take
-pub record Started (edition : ℕ) (buffer : List ℕ) (started : Bytes) : Type 0 where
+-- what an accepted start leaves in any bytes, with tables of a length that the calls take
+pub record Started (buffer : List ℕ) (started : Bytes) : Type 0 where
   pub registers : List ℕ
   pub answer : ℕ
-  pub accepted : start_refusal edition registers buffer ≡ 0
-  pub promised : StartGives edition registers buffer answer started.registers started.buffer
+  pub accepted : start_refusal registers buffer ≡ 0
+  pub promised : StartGives registers buffer answer started.registers started.buffer
   pub tables-long : tables_taken started.tables ≡ true
 
 abbrev pub HostsAreSequences : Type 0
-HostsAreSequences = (edition : ℕ) (buffer : List ℕ) (started : Bytes) → Started edition buffer started
-    → (es : List HostStep) → HostThroughout started es → HostIsSequence (host_system edition buffer started.tables) started es
+HostsAreSequences = (buffer : List ℕ) (started : Bytes) → Started buffer started
+    → (es : List HostStep) → HostThroughout started es → HostIsSequence buffer started es

@@ -1,6 +1,5 @@
 pub mod Bytes
 pub mod HostCalls
-pub mod Marks
 pub mod Start
 pub mod RawAccess
 pub mod Reading

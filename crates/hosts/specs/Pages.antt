@@ -49,7 +49,7 @@ ReadIfAged m a answer = (f : Found) → walk_for m a ≡ Leaf f → leaf_valid f
 -- decide, whatever the calls before it have loaded.
 unfoldable pub AfterAnyCalls : (Says : (m : Machine) (a : Access) (answer : ℕ) → Type 0) → Type 0
 AfterAnyCalls Says =
-    (edition : ℕ) (buffer : List ℕ) (started : Bytes) → Started edition buffer started
+    (buffer : List ℕ) (started : Bytes) → Started buffer started
     → (earlier : List HostStep) (last : HostEvent) → HostThroughout started (earlier ++ (Called last ∷ []))
     → (given : Bytes) (a : Access) → last.call ≡ HostAccess given a → bits 63 56 last.answer ≡ 0
     → by_tables (machine_in given) a ≡ true → Says (machine_in given) a last.answer

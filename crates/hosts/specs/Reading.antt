@@ -51,8 +51,8 @@ RefusalsRead = (now : Bytes) (c : HostCall) (answer : ℕ) (after : Bytes) → T
 
 -- a start tells nothing but its refusal
 abbrev pub StartsRead : Type 0
-StartsRead = (edition : ℕ) (registers buffer : List ℕ) (answer : ℕ) (registers-after buffer-after : List ℕ)
-    → StartGives edition registers buffer answer registers-after buffer-after → RefusalRead answer (start_refusal edition registers buffer)
+StartsRead = (registers buffer : List ℕ) (answer : ℕ) (registers-after buffer-after : List ℕ)
+    → StartGives registers buffer answer registers-after buffer-after → RefusalRead answer (start_refusal registers buffer)
 
 -- where there is an address, and which
 unfoldable pub LocatedRead : Physical → (answer : ℕ) → Type 0

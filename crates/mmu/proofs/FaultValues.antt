@@ -22,7 +22,7 @@ use Rattle.access.specs.declared.Translation.{Translation}
 use Rattle.access.proofs.Values.{translate-value-le}
 use Rattle.store.specs.Machine.{Machine}
 use Rattle.mmu.specs.ServedAccess.{outcome_of, tried_reply, missed, after_miss, first_try, walk_for, access_reply, served_refusal}
-use Rattle.mmu.specs.ServedAccess.{served_reply, marked_reply}
+use Rattle.mmu.specs.ServedAccess.{served_reply}
 use Rattle.mmu.specs.FaultValues.{IsFault, IfFault, DecidedBy, ServedFault, ServedFaults}
 
 -- a walk that found no leaf gives its own value
@@ -75,7 +75,7 @@ access-fault m a = by-try (missed (first_try m a)) refl
     }
 
 pub served-faults : ServedFaults
-unfolding served_reply marked_reply by_refusal
+unfolding served_reply by_refusal
 served-faults m a accepted =
-    subst (λ (t : Bool). ServedFault m a (cond t (marked_reply m a) (refused m.registers (served_refusal m a))).outcome)
+    subst (λ (t : Bool). ServedFault m a (cond t (access_reply m a) (refused m.registers (served_refusal m a))).outcome)
     (sym (eq-eqb (served_refusal m a) 0 accepted)) (access-fault m a)

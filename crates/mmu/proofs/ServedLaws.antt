@@ -3,7 +3,7 @@ use Prim.Native.Nat.{ℕ, ◌≤◌, ◌<◌}
 use mathlib.Core.Path.{◌≡◌, refl, sym, ap, ◌∙◌, subst}
 use mathlib.Core.Logic.{⊎_elim}
 use mathlib.Core.Bool.{Bool, true, false, cond, not, ◌&&◌, not-not}
-use mathlib.Core.List.{List, [], ◌∷◌}
+use mathlib.Core.List.{[], ◌∷◌}
 use native.Mathlib.Omega.{arith}
 use lib.Dec.{eqb}
 use lib.ListN.{length}
@@ -42,8 +42,8 @@ use Rattle.store.specs.Leaf.{leaf_entry}
 use Rattle.store.specs.Machine.{Machine}
 use Rattle.mmu.specs.ServedAccess.{may_be_served, served_refusal, outcome_of, tried_reply, missed, loaded_at, registers_loaded, buffer_loaded}
 use Rattle.mmu.specs.ServedAccess.{after_miss, buffer_after_miss, first_try, walk_for, access_reply, access_buffer, served_reply}
-use Rattle.mmu.specs.ServedAccess.{marked_reply, served_buffer, served_words}
-use Rattle.mmu.specs.ServedAccess.{RetryGives, AccessGives, MarkedGives, ServedAccessGives}
+use Rattle.mmu.specs.ServedAccess.{served_buffer}
+use Rattle.mmu.specs.ServedAccess.{RetryGives, AccessGives, ServedAccessGives}
 
 -- the code tests that a register is 0
 pub served-test : (r : Registers) → (eqb r.test 0 && not (eqb r.context 63)) ≡ may_be_served r
@@ -177,29 +177,26 @@ access-answers m a = by-try (missed (first_try m a))
     by-try false = tried-answers (first_try m a) 0
 
 -- what every reply promises
-pub served-gives : (m : Machine) (a : Access) (reply : Reply) (after : Buffer) (words : List ℕ) → reply ≡ served_reply m a
-    → after ≡ served_buffer m a → words ≡ served_words m a → ServedAccessGives m a reply after words
-unfolding served_reply marked_reply
-served-gives m a reply after words q b w = record {
+pub served-gives : (m : Machine) (a : Access) (reply : Reply) (after : Buffer) → reply ≡ served_reply m a → after ≡ served_buffer m a
+    → ServedAccessGives m a reply after
+unfolding served_reply
+served-gives m a reply after q b = record {
   refusal_is =
       ap (λ (s : Reply). refusal_of s.outcome) q
-      ∙ answer-refusal (served_refusal m a) (marked_reply m a) m.registers (access-answers m a);
+      ∙ answer-refusal (served_refusal m a) (access_reply m a) m.registers (access-answers m a);
   reply-is = q;
   buffer-is = b;
-  words_are = w;
 }
 
 -- the two ways through the call
 module _ (m : Machine) (a : Access) (n : ℕ) (nq : n ≡ served_refusal m a) (reply : Reply) where
-  pub served-refused : (n ≡ 0 → ⊥) → reply ≡ refused m.registers n → ServedAccessGives m a reply m.buffer m.words
-  unfolding served_reply served_buffer served_words
+  pub served-refused : (n ≡ 0 → ⊥) → reply ≡ refused m.registers n → ServedAccessGives m a reply m.buffer
+  unfolding served_reply served_buffer
   served-refused h q =
-      served-gives m a reply m.buffer m.words (when-refused _ n nq _ _ _ h (q ∙ ap (refused m.registers) nq))
-      (when-refused _ n nq _ _ _ h refl) (when-refused _ n nq _ _ _ h refl)
+      served-gives m a reply m.buffer (when-refused _ n nq _ _ _ h (q ∙ ap (refused m.registers) nq))
+      (when-refused _ n nq _ _ _ h refl)
 
-  pub served-done : (after : Buffer) (words : List ℕ) → n ≡ 0 → MarkedGives m a reply after words
-      → ServedAccessGives m a reply after words
-  unfolding served_reply served_buffer served_words
-  served-done after words z g =
-      served-gives m a reply after words (when-accepted _ n nq _ _ _ z g.reply-is) (when-accepted _ n nq _ _ _ z g.buffer-is)
-      (when-accepted _ n nq _ _ _ z g.words_are)
+  pub served-done : (after : Buffer) → n ≡ 0 → AccessGives m a reply after → ServedAccessGives m a reply after
+  unfolding served_reply served_buffer
+  served-done after z g =
+      served-gives m a reply after (when-accepted _ n nq _ _ _ z g.reply-is) (when-accepted _ n nq _ _ _ z g.buffer-is)

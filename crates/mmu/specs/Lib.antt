@@ -1,5 +1,3 @@
-pub mod Marks
 pub mod RawAccess
 pub mod ServedAccess
 pub mod FaultValues
-pub mod Editions

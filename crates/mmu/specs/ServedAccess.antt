@@ -1,11 +1,10 @@
--- The call served access: try; on a miss walk; where a leaf is found, load it and try again; then the written mark. Refusals 1, 2, 3, 4
--- and 5.
-use Rattle.std.specs.Prelude.{ℕ, ◌≡◌, Bool, cond, not, ◌&&◌, List, eqb}
+-- The call served access: try; on a miss walk; where a leaf is found, load it and try again. Refusals 1, 2, 3, 4 and 5.
+use Rattle.std.specs.Prelude.{ℕ, ◌≡◌, Bool, cond, not, ◌&&◌, eqb}
 use Rattle.entry.specs.Address.{vpn_of}
 use Rattle.entry.specs.Entry.{pack}
 use Rattle.registers.specs.Fields.{put, registers_fit, SELECT}
 use Rattle.registers.specs.Refusals.{refuse_unless, machine_refusal, by_refusal, draw_fits}
-use Rattle.registers.specs.Replies.{refusal_of, refused, answered, marked}
+use Rattle.registers.specs.Replies.{refusal_of, refused, answered}
 use Rattle.registers.specs.declared.Access.{Access}
 use Rattle.registers.specs.declared.Outcome.{Outcome}
 use Rattle.registers.specs.declared.Outcome.TheVariants.{At, Fault}
@@ -26,8 +25,6 @@ use Rattle.access.specs.declared.Physical.TheVariants.{Address, None}
 use Rattle.access.specs.declared.Translation.{Translation}
 use Rattle.store.specs.Leaf.{leaf_entry}
 use Rattle.store.specs.Machine.{Machine}
-use Rattle.store.specs.Rewrite.{Put, rewritten, buffer_after, emptied_by}
-use Rattle.mmu.specs.Marks.{marks}
 
 -- number 5: served access in test mode or with context 63
 unfoldable pub may_be_served : Registers → Bool
@@ -108,38 +105,14 @@ pub record AccessGives (m : Machine) (a : Access) (reply : Reply) (buffer-after 
   pub reply-is : reply ≡ access_reply m a
   pub buffer-is : buffer-after ≡ access_buffer m a
 
--- the stores of the access's mark: "the mark is made after the address is found", in the leaf that the walk finds
-unfoldable pub marks_on : Machine → Access → List (List Put)
-marks_on m a =
-    marks m.registers.edition m.registers.enable m.registers.kseg a (access_reply m a).outcome (walk_for m a)
-
--- what the access gives with its mark: the answer says beside it how many slots the mark emptied
-unfoldable pub marked_reply : Machine → Access → Reply
-marked_reply m a = marked (access_reply m a) (emptied_by (marks_on m a) m.words (access_buffer m a))
-
-unfoldable pub marked_buffer : Machine → Access → Buffer
-marked_buffer m a = buffer_after (marks_on m a) m.words (access_buffer m a)
-
-unfoldable pub marked_words : Machine → Access → List ℕ
-marked_words m a = rewritten (marks_on m a) m.words
-
-pub record MarkedGives (m : Machine) (a : Access) (reply : Reply) (buffer-after : Buffer) (words-after : List ℕ) : Type 0 where
-  pub reply-is : reply ≡ marked_reply m a
-  pub buffer-is : buffer-after ≡ marked_buffer m a
-  pub words_are : words-after ≡ marked_words m a
-
 unfoldable pub served_reply : Machine → Access → Reply
-served_reply m a = by_refusal (served_refusal m a) (marked_reply m a) (refused m.registers (served_refusal m a))
+served_reply m a = by_refusal (served_refusal m a) (access_reply m a) (refused m.registers (served_refusal m a))
 
 unfoldable pub served_buffer : Machine → Access → Buffer
-served_buffer m a = by_refusal (served_refusal m a) (marked_buffer m a) m.buffer
+served_buffer m a = by_refusal (served_refusal m a) (access_buffer m a) m.buffer
 
-unfoldable pub served_words : Machine → Access → List ℕ
-served_words m a = by_refusal (served_refusal m a) (marked_words m a) m.words
-
--- what the call promises
-pub record ServedAccessGives (m : Machine) (a : Access) (reply : Reply) (buffer-after : Buffer) (words-after : List ℕ) : Type 0 where
+-- what the call promises. The table words are lent for reading alone
+pub record ServedAccessGives (m : Machine) (a : Access) (reply : Reply) (buffer-after : Buffer) : Type 0 where
   pub refusal_is : refusal_of reply.outcome ≡ served_refusal m a
   pub reply-is : reply ≡ served_reply m a
   pub buffer-is : buffer-after ≡ served_buffer m a
-  pub words_are : words-after ≡ served_words m a

@@ -1,14 +1,12 @@
 // The unit's access calls, with their refusals.
-pub mod marks;
-
 ghost use Rattle.std.specs.Prelude.{◌≡◌, ◌≤◌, length};
 ghost use Rattle.registers.specs.Refusals.{draw_fits};
 ghost use Rattle.page_table.specs.Stretches.{ROOTS};
 ghost use Rattle.slots.specs.Buffer.{Buffer};
 ghost use Rattle.access.specs.Translation.{Accepted};
 ghost use Rattle.mmu.specs.RawAccess.{RawAccessGives, raw_refusal};
-ghost use Rattle.mmu.specs.ServedAccess.{AccessGives, MarkedGives, RetryGives, ServedAccessGives, may_be_served};
-ghost use Rattle.mmu.specs.ServedAccess.{served_refusal, service_refusal, tried_reply};
+ghost use Rattle.mmu.specs.ServedAccess.{AccessGives, RetryGives, ServedAccessGives, may_be_served, served_refusal, service_refusal};
+ghost use Rattle.mmu.specs.ServedAccess.{tried_reply};
 
 use access::{MISS, Physical, Translation};
 use page_table::{Found, Walk};
@@ -153,34 +151,19 @@ fn serve(r: Registers, buffer: &mut [u64], words: &[u32], a: Access) -> Reply
     load_and_retry(leaf, after, buffer, a)
 }
 
-// Serves an access, and then makes its mark.
-fn serve_and_mark(r: Registers, buffer: &mut [u64], words: &mut [u32], a: Access) -> Reply
-    requires { Accepted r (Buffer.Wide buffer.old) a × (ROOTS ≤ length words.old) }
-    ensures { MarkedGives
-        (record { registers = r; buffer = Buffer.Wide buffer.old; words = words.old }) a result
-        (Buffer.Wide buffer.new) words.new }
-{
-    let reply = serve(r, buffer, words, a);
-    let outcome = reply.outcome;
-    let emptied = marks::mark(r, outcome, buffer, words, a);
-    registers::marked(reply, emptied)
-}
-
-// One served access. The outcome is the address or a fault; the loads are the entries that were loaded, 0 or 1; emptied are the slots that
-// its mark emptied.
+// One served access. The outcome is the address or a fault; the loads are the entries that were loaded, 0 or 1.
 pub fn served_access(
     r: Registers,
     buffer: &mut [u64],
-    words: &mut [u32],
+    words: &[u32],
     address: u32,
     user: bool,
     write: bool,
     draw: u32,
 ) -> Reply
     ensures { ServedAccessGives
-        (record { registers = r; buffer = Buffer.Wide buffer.old; words = words.old })
-        (record { address = address; user = user; write = write; draw = draw }) result (Buffer.Wide buffer.new)
-        words.new }
+        (record { registers = r; buffer = Buffer.Wide buffer.old; words = words.now })
+        (record { address = address; user = user; write = write; draw = draw }) result (Buffer.Wide buffer.new) }
 {
     let a = Access {
         address,
@@ -192,5 +175,5 @@ pub fn served_access(
     if number != 0 {
         return registers::refused(r, number);
     }
-    serve_and_mark(r, buffer, words, a)
+    serve(r, buffer, words, a)
 }

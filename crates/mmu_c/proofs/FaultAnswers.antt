@@ -9,7 +9,7 @@ use Rattle.registers.specs.Refusals.{by_refusal}
 use Rattle.registers.specs.declared.Outcome.{Outcome}
 use Rattle.registers.specs.declared.Outcome.TheVariants.{At, Fault, Done, Refused}
 use Rattle.page_table.specs.Faults.{fault_kind, fault_level, fault_global}
-use Rattle.mmu.specs.ServedAccess.{access_reply, marked_reply}
+use Rattle.mmu.specs.ServedAccess.{access_reply}
 use Rattle.mmu.specs.FaultValues.{IfFault}
 use Rattle.mmu.proofs.FaultValues.{access-fault}
 use Rattle.mmu_c.specs.Answers.{refusal_answer, access_answer, outcome_answer, reply_answer, outcome_fits}
@@ -68,7 +68,7 @@ fault-read (Done emptied) loads fits l = tt
 fault-read (Refused number) loads fits l = tt
 
 pub faults-read : FaultsRead
-unfolding served_number served_reply marked_reply by_refusal reply_answer
+unfolding served_number served_reply by_refusal reply_answer
 faults-read registers buffer tables a accepted =
     let m = machine_of registers buffer tables in
     let fits = access-fits m a in

@@ -2,7 +2,6 @@ pub mod AnswerLaws
 pub mod RunLaws
 pub mod Locations
 pub mod PutBack
-pub mod MarkLaws
 pub mod RawLaws
 pub mod ServedLaws
 pub mod StoreLaws

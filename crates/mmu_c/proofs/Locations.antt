@@ -10,7 +10,7 @@ use native.Mathlib.Omega.{arith}
 use lib.ListN.{length, get_or, set, length-set}
 use lib.Seq.{get_or-set_same, get_or-set_other}
 use borrow.Author.Tests.{eq-eqb}
-use Rattle.wire.specs.Wire.{element_at, decoded}
+use Rattle.wire.specs.Wire.{element_at, decoded, AreBytes}
 use Rattle.wire.proofs.Elements.{decoded-length, decoded-at}
 use Rattle.entry.specs.Address.{vpn_of, slot_of}
 use Rattle.entry.proofs.Fields.{slot_lt}
@@ -36,6 +36,7 @@ apart j n vpn d q = d (omega arith)
 -- the loop that fetches: the slots of the sets below n have the bytes' numbers
 pub record Fetching (bytes numbers : List ℕ) (vpn n : ℕ) : Type 0 where
   pub in-range : n ≤ 4
+  pub are-bytes : 0 < n → AreBytes bytes
   pub long : length numbers ≡ 64
   pub each : (j : ℕ) → j < n → get_or numbers (slot_of j vpn) 0 ≡ element_at 8 bytes (slot_of j vpn)
 
@@ -43,14 +44,16 @@ module _ (bytes numbers : List ℕ) (vpn : ℕ) where
   pub fetch-none : length numbers ≡ 64 → Fetching bytes numbers vpn 0
   fetch-none e = record {
     in-range = omega arith;
+    are-bytes = λ l. absurd (omega arith);
     long = e;
     each = λ j l. absurd (omega arith);
   }
 
   pub fetch-more : (n slot x : ℕ) → Fetching bytes numbers vpn n → n < 4 → slot ≡ slot_of n vpn → x ≡ element_at 8 bytes slot
-      → Fetching bytes (set numbers slot x) vpn (n + 1)
-  fetch-more n slot x f l q e = record {
+      → AreBytes bytes → Fetching bytes (set numbers slot x) vpn (n + 1)
+  fetch-more n slot x f l q e b = record {
     in-range = omega arith;
+    are-bytes = λ k. b;
     long = length-set numbers slot x ∙ f.long;
     each = λ j k. ⊎_elim here (λ (m : j < n). there j m) (eq-or-lt_of_le (le_of_suc-le-suc (rw add-one at k)));
   }
@@ -66,7 +69,7 @@ module _ (bytes numbers : List ℕ) (vpn : ℕ) where
           ∙ f.each j m
 
   pub fetch-all : (n : ℕ) → Fetching bytes numbers vpn n → 4 ≤ n → Fetched bytes numbers vpn
-  fetch-all n f l = record { long = f.long; each = λ j k. f.each j (omega arith) }
+  fetch-all n f l = record { are-bytes = f.are-bytes (omega arith); long = f.long; each = λ j k. f.each j (omega arith) }
 
 -- the bytes' buffer fits, and so does a run of 64 numbers
 pub buffer-fits : (bytes : List ℕ) → buffer_fits (buffer_of bytes) ≡ true

@@ -1,4 +1,4 @@
--- The slots of a location put back: the bytes then hold the buffer that the load leaves. Assumes nothing.
+-- The slots of a location put back: the bytes are then those of the buffer that the load leaves. Assumes nothing.
 use Prim.Native.Nat.{ℕ, zero, suc, ◌+◌, ◌/◌, ◌%◌, ◌^◌, ◌≤◌, ◌<◌}
 use mathlib.Core.Path.{◌≡◌, refl, sym, ap, ◌∙◌, subst}
 use mathlib.Core.Logic.{◌≢◌, ⊎_elim}
@@ -9,9 +9,9 @@ use native.Mathlib.Decide.{ℕ_discrete}
 use native.Mathlib.Omega.{arith}
 use lib.ListN.{length, get_or, set, length-set}
 use lib.Seq.{get_or-set_same, get_or-set_other, ext_get_or}
-use Rattle.wire.specs.Wire.{with_element, decoded, AreBytes}
-use Rattle.wire.proofs.Elements.{decoded-length, decoded-at, decoded-with, with-length}
-use Rattle.wire.proofs.Trips.{Within, back}
+use Rattle.wire.specs.Wire.{with_element, encoded, decoded, AreBytes}
+use Rattle.wire.proofs.Elements.{decoded-length, decoded-at, with-length, encoded-set}
+use Rattle.wire.proofs.Trips.{back}
 use Rattle.runs.specs.Counts.{lowest}
 use Rattle.runs.proofs.Counts.{lowest-lt}
 use Rattle.entry.specs.Address.{location, vpn_of, slot_of}
@@ -114,30 +114,22 @@ module _ (numbers old : List ℕ) (vpn : ℕ) (long : length old ≡ 64) where
               away : (j : ℕ) → j < 4 → i ≢ slot_of j vpn
               away j k s = d (omega arith)
 
--- bytes that nothing is put into
-pub bytes_back : (bytes : List ℕ) → AreBytes bytes → length bytes ≡ 512 → buffer_bytes (buffer_of bytes) ≡ bytes
-unfolding buffer_bytes buffer_of
-bytes_back bytes are room = back 8 bytes 64 are room
+module _ (bytes : List ℕ) (are : AreBytes bytes) (room : length bytes ≡ 512) where
+  -- bytes that nothing is put into
+  pub bytes_back : buffer_bytes (buffer_of bytes) ≡ bytes
+  unfolding buffer_bytes buffer_of
+  bytes_back = back 8 bytes 64 are room
 
--- what is put into the bytes is put into their numbers
-module _ (numbers bytes : List ℕ) (vpn : ℕ) (long : length numbers ≡ 64) (within : Within 8 numbers) (room : length bytes ≡ 512) where
-  put-length : (n : ℕ) → n ≤ 4 → length (put_back numbers vpn n bytes) ≡ 512
-  unfolding put_back
-  put-length zero l = room
-  put-length (suc n) l =
-      let e = put-length n (omega arith) in
-      with-length 8 (put_back numbers vpn n bytes) (slot_of n vpn) (get_or numbers (slot_of n vpn) 0)
-      (omega (arith, slot_lt n vpn (omega arith)))
-      ∙ e
-
-  back-into : (n : ℕ) → n ≤ 4 → decoded 8 (put_back numbers vpn n bytes) 64 ≡ into numbers vpn n (decoded 8 bytes 64)
+  -- what is put into the bytes is put into their numbers
+  back-into : (numbers : List ℕ) (vpn n : ℕ) → n ≤ 4 → put_back numbers vpn n bytes ≡ encoded 8 (into numbers vpn n (decoded 8 bytes 64))
   unfolding put_back into
-  back-into zero l = refl
-  back-into (suc n) l =
-      let k = slot_lt n vpn (omega arith) in
-      decoded-with 8 (put_back numbers vpn n bytes) 64 (slot_of n vpn) (get_or numbers (slot_of n vpn) 0) k
-      (omega (arith, put-length n (omega arith))) (within (slot_of n vpn) (subst (λ (m : ℕ). slot_of n vpn < m) (sym long) k))
-      ∙ ap (λ (ns : List ℕ). set ns (slot_of n vpn) (get_or numbers (slot_of n vpn) 0)) (back-into n (omega arith))
+  back-into numbers vpn zero l = sym (back 8 bytes 64 are room)
+  back-into numbers vpn (suc n) l =
+      let k : slot_of n vpn < length (into numbers vpn n (decoded 8 bytes 64)) =
+      subst (λ (m : ℕ). slot_of n vpn < m) (sym (into-length numbers (decoded 8 bytes 64) vpn (decoded-length 8 bytes 64) n))
+      (slot_lt n vpn (omega arith)) in
+      rw (back-into numbers vpn n (omega arith))
+      (sym (encoded-set 8 (into numbers vpn n (decoded 8 bytes 64)) (slot_of n vpn) (get_or numbers (slot_of n vpn) 0) k))
 
 -- runs that agree in the location's slots
 module _ (old run : List ℕ) (vpn : ℕ) (long : length old ≡ 64) (long' : length run ≡ 64)
@@ -187,7 +179,7 @@ module _ (r : Registers) (bytes run : List ℕ) (a : Access) (f : Fetched bytes 
       ∙ ap (λ (k : ℕ). set old k (pack (leaf_entry r.context vpn g) % 2 ^ 44))
       (load-slot-same (Wide run) (buffer_of bytes) vpn (fetched-same bytes run vpn f) r.context a.draw))
 
-  pub put-back : (g : Found) (after : List ℕ) → length after ≡ 64 → Within 8 after → Wide after ≡ buffer_loaded r (Wide run) a g
-      → buffer_of (put_back after vpn 4 bytes) ≡ buffer_loaded r (buffer_of bytes) a g
-  unfolding buffer_of
-  put-back g after long within q = ap Wide (back-into after bytes vpn long within room 4 (omega arith)) ∙ loaded g after q
+  pub put-back : (g : Found) (after : List ℕ) → Wide after ≡ buffer_loaded r (Wide run) a g
+      → put_back after vpn 4 bytes ≡ buffer_bytes (buffer_loaded r (buffer_of bytes) a g)
+  unfolding buffer_bytes
+  put-back g after q = back-into bytes f.are-bytes room after vpn 4 (omega arith) ∙ ap buffer_bytes (loaded g after q)

@@ -16,7 +16,7 @@ use Rattle.access.specs.Translation.{Accepted, translate}
 use Rattle.access.specs.declared.Translation.{Translation}
 use Rattle.access.proofs.Plain.{plain, plain-registers}
 use Rattle.access.proofs.Values.{translate-value-le}
-use Rattle.mmu_c.specs.Runs.{REGISTER_BYTES, registers_of, register_bytes, buffer_of, registers_taken, buffer_taken}
+use Rattle.mmu_c.specs.Runs.{registers_of, register_bytes, buffer_of, registers_taken, buffer_taken}
 use Rattle.mmu_c.specs.Answers.{refusal_answer, translation_answer}
 use Rattle.mmu_c.specs.RawAccess.{raw_refusal, translation, raw_number, raw_registers, RawAccessGives}
 use Rattle.mmu_c.proofs.AnswerLaws.{refusal-room}
@@ -25,11 +25,11 @@ use Rattle.mmu_c.proofs.Locations.{buffer-fits}
 
 -- the refusal by the registers' length and by what the code tests then
 module _ (registers buffer : List ℕ) (a : Access) where
-  pub refusal-short : (length registers ≡ REGISTER_BYTES → ⊥) → 1 ≡ raw_refusal registers buffer a
+  pub refusal-short : (length registers ≡ 44 → ⊥) → 1 ≡ raw_refusal registers buffer a
   unfolding raw_refusal
   refusal-short h = short-refusal registers _ h
 
-  pub refusal-long : (r : Registers) (n : ℕ) → length registers ≡ REGISTER_BYTES → r ≡ registers_of registers
+  pub refusal-long : (r : Registers) (n : ℕ) → length registers ≡ 44 → r ≡ registers_of registers
       → n ≡ refuse_unless (registers_fit r) 1 (refuse_unless (buffer_taken buffer) 2 (refuse_unless (draw_fits a.draw) 4 0))
       → n ≡ raw_refusal registers buffer a
   unfolding raw_refusal
@@ -43,7 +43,7 @@ module _ (registers buffer : List ℕ) (a : Access) (n : ℕ) (nq : n ≡ raw_re
 
   -- an access that is not refused
   module _ (z : n ≡ 0) where
-    pub lengths : (length registers ≡ REGISTER_BYTES) × (length buffer ≡ 512)
+    pub lengths : (length registers ≡ 44) × (length buffer ≡ 512)
     unfolding raw_refusal
     lengths =
         let one = passed (registers_taken registers) 1 _ (λ e. omega arith) (sym nq ∙ z) in

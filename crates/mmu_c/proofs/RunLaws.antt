@@ -18,37 +18,35 @@ use Rattle.registers.proofs.Fields.{to-from}
 use Rattle.registers.specs.declared.Registers.{Registers}
 use Rattle.store.specs.TableStore.{index_fits}
 use Rattle.table_bytes.specs.TableBytes.{words_of}
-use Rattle.mmu_c.specs.Runs.{REGISTER_BYTES, registers_of, register_bytes, table_bytes, registers_long, registers_taken, buffer_taken}
-use Rattle.mmu_c.specs.Runs.{length_taken, tables_taken}
+use Rattle.mmu_c.specs.Runs.{registers_of, register_bytes, registers_long, registers_taken, buffer_taken, length_taken, tables_taken}
 
 -- the two ways through the test of the registers' bytes, and what it tells
-pub taken-other : (bytes : List ℕ) → (length bytes ≡ REGISTER_BYTES → ⊥) → false ≡ registers_taken bytes
+pub taken-other : (bytes : List ℕ) → (length bytes ≡ 44 → ⊥) → false ≡ registers_taken bytes
 unfolding registers_taken registers_long
-taken-other bytes h = sym (rw (ne_eqb (length bytes) REGISTER_BYTES h))
+taken-other bytes h = sym (rw (ne_eqb (length bytes) 44 h))
 
-pub taken-long : (bytes : List ℕ) (r : Registers) (t : Bool) → length bytes ≡ REGISTER_BYTES → r ≡ registers_of bytes → t ≡ registers_fit r
+pub taken-long : (bytes : List ℕ) (r : Registers) (t : Bool) → length bytes ≡ 44 → r ≡ registers_of bytes → t ≡ registers_fit r
     → t ≡ registers_taken bytes
 unfolding registers_taken registers_long
-taken-long bytes r t h q e = e ∙ ap registers_fit q ∙ sym (rw (eq-eqb (length bytes) REGISTER_BYTES h))
+taken-long bytes r t h q e = e ∙ ap registers_fit q ∙ sym (rw (eq-eqb (length bytes) 44 h))
 
 -- so the refusals of a call start
-pub short-refusal : (bytes : List ℕ) (later : ℕ) → (length bytes ≡ REGISTER_BYTES → ⊥) → 1 ≡ refuse_unless (registers_taken bytes) 1 later
+pub short-refusal : (bytes : List ℕ) (later : ℕ) → (length bytes ≡ 44 → ⊥) → 1 ≡ refuse_unless (registers_taken bytes) 1 later
 unfolding refuse_unless
 short-refusal bytes later h = ap (λ (t : Bool). refuse_unless t 1 later) (taken-other bytes h)
 
-pub long-refusal : (bytes : List ℕ) (r : Registers) (later : ℕ) → length bytes ≡ REGISTER_BYTES → r ≡ registers_of bytes
+pub long-refusal : (bytes : List ℕ) (r : Registers) (later : ℕ) → length bytes ≡ 44 → r ≡ registers_of bytes
     → refuse_unless (registers_fit r) 1 later ≡ refuse_unless (registers_taken bytes) 1 later
 long-refusal bytes r later h q = ap (λ (t : Bool). refuse_unless t 1 later) (taken-long bytes r (registers_fit r) h q refl)
 
-pub registers-told : (bytes : List ℕ) → registers_taken bytes ≡ true
-    → (length bytes ≡ REGISTER_BYTES) × (registers_fit (registers_of bytes) ≡ true)
+pub registers-told : (bytes : List ℕ) → registers_taken bytes ≡ true → (length bytes ≡ 44) × (registers_fit (registers_of bytes) ≡ true)
 unfolding registers_taken registers_long
 registers-told bytes h =
-    let t = both (eqb (length bytes) REGISTER_BYTES) (registers_fit (registers_of bytes)) h in
-    (eqb-true (length bytes) REGISTER_BYTES t.0, t.1)
+    let t = both (eqb (length bytes) 44) (registers_fit (registers_of bytes)) h in
+    (eqb-true (length bytes) 44 t.0, t.1)
 
--- bytes of the right length are those of their registers
-pub registers-back : (bytes : List ℕ) → AreBytes bytes → length bytes ≡ REGISTER_BYTES → register_bytes (registers_of bytes) ≡ bytes
+-- 44 bytes are those of their registers
+pub registers-back : (bytes : List ℕ) → AreBytes bytes → length bytes ≡ 44 → register_bytes (registers_of bytes) ≡ bytes
 unfolding register_bytes registers_of
 registers-back bytes are e =
     ap (encoded 4) (to-from (decoded 4 bytes FIELDS) (decoded-length 4 bytes FIELDS)) ∙ back 4 bytes FIELDS are e
@@ -57,25 +55,19 @@ pub buffer-told : (bytes : List ℕ) → buffer_taken bytes ≡ true → length 
 unfolding buffer_taken
 buffer-told bytes h = eqb-true (length bytes) 512 h
 
-pub tables-told : (bytes : List ℕ) → tables_taken bytes ≡ true → (4096 ≤ length bytes) × (length bytes % 4096 ≡ 0)
+pub tables-told : (bytes : List ℕ) → tables_taken bytes ≡ true → 4096 ≤ length bytes
 unfolding tables_taken length_taken
 tables-told bytes h =
     let n = length bytes in
     let ends = both (leb 4096 n && leb n 65536) (eqb (n % 4096) 0) h in
-    (leb-true 4096 n (both (leb 4096 n) (leb n 65536) ends.0).0, eqb-true (n % 4096) 0 ends.1)
-
--- bytes of whole words are those of their words
-pub tables-back : (bytes : List ℕ) → AreBytes bytes → length bytes % 4 ≡ 0 → table_bytes (words_of bytes) ≡ bytes
-unfolding table_bytes words_of
-tables-back bytes are e = back 4 bytes (length bytes / 4) are (omega arith)
+    leb-true 4096 n (both (leb 4096 n) (leb n 65536) ends.0).0
 
 -- what a call that takes all three runs and is not refused by them was handed
 pub record Handed (registers buffer tables : List ℕ) (later : ℕ) : Type 0 where
-  pub registers-long : length registers ≡ REGISTER_BYTES
+  pub registers-long : length registers ≡ 44
   pub registers-fit : registers_fit (registers_of registers) ≡ true
   pub buffer-long : length buffer ≡ 512
   pub tables-long : 256 ≤ length tables
-  pub tables-whole : length tables % 4 ≡ 0
   pub later-passed : later ≡ 0
 
 pub handed : (registers buffer tables : List ℕ) (later n : ℕ)
@@ -88,8 +80,7 @@ handed registers buffer tables later n nq z =
       registers-long = one.0;
       registers-fit = one.1;
       buffer-long = buffer-told buffer told.1;
-      tables-long = omega (arith, (tables-told tables told.2).0);
-      tables-whole = omega (arith, (tables-told tables told.2).1);
+      tables-long = omega (arith, tables-told tables told.2);
       later-passed = told.3;
     }
 

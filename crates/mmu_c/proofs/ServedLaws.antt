@@ -1,19 +1,21 @@
 -- What a served access that is not refused was handed, and the ways through it. Assumes nothing.
-use Prim.Native.Nat.{ℕ, ◌+◌, ◌%◌, ◌≤◌, ◌<◌}
+use Prim.Native.Nat.{ℕ, ◌+◌, ◌≤◌, ◌<◌}
 use mathlib.Core.Path.{◌≡◌, refl, sym, ap, ◌∙◌, subst}
-use mathlib.Core.Bool.{Bool, true, false, not, cond, ◌&&◌}
-use mathlib.Core.List.{List}
+use mathlib.Core.Bool.{Bool, true, false, not, cond}
+use mathlib.Core.List.{List, [], ◌∷◌}
 use native.Mathlib.Omega.{arith}
 use lib.ListN.{length}
 use borrow.Author.Tests.{lt-ltb, not-true}
-use Rattle.runs.proofs.Bools.{both}
+use types.Run.{OneOf}
+use denote.Enum.Declared.{tag_of}
 use Rattle.wire.specs.Wire.{AreBytes}
-use Rattle.wire.proofs.Trips.{Within}
 use Rattle.entry.specs.Address.{vpn_of}
 use Rattle.registers.specs.Fields.{registers_fit}
 use Rattle.registers.specs.Refusals.{machine_refusal, draw_fits}
 use Rattle.registers.proofs.RefusalLaws.{passed, when-accepted, when-refused}
+use Rattle.registers.specs.Replies.{answered}
 use Rattle.registers.specs.declared.Access.{Access}
+use Rattle.registers.specs.declared.Outcome.TheVariants.{Fault}
 use Rattle.registers.specs.declared.Registers.{Registers}
 use Rattle.registers.specs.declared.Reply.{Reply}
 use Rattle.page_table.specs.Walk.{walk_page}
@@ -22,6 +24,7 @@ use Rattle.page_table.proofs.FaultLaws.{place-lt}
 use Rattle.page_table.specs.declared.Found.{Found}
 use Rattle.page_table.specs.declared.Walk.{Walk}
 use Rattle.page_table.specs.declared.Walk.TheVariants.{Leaf, Absent, Broken}
+use Rattle.page_table.specs.contracts.Walk.{the_type}
 use Rattle.slots.specs.Buffer.{Buffer}
 use Rattle.slots.specs.Buffer.Buffer.{Wide}
 use Rattle.access.specs.Translation.{Accepted, no_exception, translate}
@@ -34,19 +37,16 @@ use Rattle.access.proofs.Values.{translate-value-le}
 use Rattle.store.specs.Machine.{Machine}
 use Rattle.table_bytes.specs.TableBytes.{words_of}
 use Rattle.mmu.specs.ServedAccess.{may_be_served, service_refusal, outcome_of, tried_reply, missed, after_miss, first_try, walk_for, access_reply}
-use Rattle.mmu.specs.ServedAccess.{RetryGives, AccessGives, marked_reply, marked_buffer, marked_words, MarkedGives}
-use Rattle.mmu.specs.Marks.{may_mark}
-use Rattle.mmu.proofs.ServedLaws.{first-accepted, serve-tried, serve-loaded}
-use Rattle.mmu.proofs.MarkLaws.{marks-off, marked-gives}
+use Rattle.mmu.specs.ServedAccess.{access_buffer, RetryGives, AccessGives}
+use Rattle.mmu.proofs.ServedLaws.{first-accepted, serve-tried, serve-final, serve-loaded}
 use Rattle.mmu.proofs.Locations.{loaded-reply-same}
-use Rattle.mmu_c.specs.Runs.{REGISTER_BYTES, registers_of, register_bytes, buffer_of, buffer_bytes, table_bytes, registers_taken}
-use Rattle.mmu_c.specs.Runs.{buffer_taken, tables_taken, machine_of}
+use Rattle.mmu_c.specs.Runs.{registers_of, register_bytes, buffer_of, buffer_bytes, registers_taken, buffer_taken, tables_taken, machine_of}
 use Rattle.mmu_c.specs.Answers.{refusal_answer, raw_answer, translation_answer, outcome_answer, reply_answer, outcome_fits}
 use Rattle.mmu_c.specs.Location.{Fetched, put_back}
-use Rattle.mmu_c.specs.ServedAccess.{served_refusal, served_reply, served_buffer, served_words, served_number, served_registers}
-use Rattle.mmu_c.specs.ServedAccess.{served_bytes, served_tables, ServedAccessGives}
+use Rattle.mmu_c.specs.ServedAccess.{served_refusal, served_reply, served_buffer, served_number, served_registers, served_bytes}
+use Rattle.mmu_c.specs.ServedAccess.{AccessGivesBytes, ServedAccessGives}
 use Rattle.mmu_c.proofs.AnswerLaws.{refusal-room, machine-room}
-use Rattle.mmu_c.proofs.RunLaws.{short-refusal, long-refusal, registers-back, tables-back, Handed, handed}
+use Rattle.mmu_c.proofs.RunLaws.{short-refusal, long-refusal, registers-back, Handed, handed}
 use Rattle.mmu_c.proofs.Locations.{buffer-fits, run_fits, fetched-same}
 use Rattle.mmu_c.proofs.PutBack.{bytes_back, put-back}
 
@@ -54,31 +54,50 @@ use Rattle.mmu_c.proofs.PutBack.{bytes_back, put-back}
 abbrev pub machine : Registers → (buffer tables : List ℕ) → Machine
 machine r buffer tables = record { registers = r; buffer = buffer_of buffer; words = words_of tables }
 
--- an access whose first try missed and whose walk gave a leaf, which is loaded into the run and put back
-module _ (r : Registers) (buffer run : List ℕ) (a : Access) (first : Translation) (fq : first ≡ translate r (buffer_of buffer) a)
-    (f : Fetched buffer run (vpn_of a.address)) (p : Accepted r (buffer_of buffer) a) where
-  pub miss-accepted : Accepted first.registers (Wide run) a
-  miss-accepted =
+-- the three ways through an accepted access: the first try stands, or it missed and the walk gave no leaf, or one
+module _ (r : Registers) (buffer tables run : List ℕ) (a : Access) (first : Translation) (fq : first ≡ translate r (buffer_of buffer) a)
+    (f : Fetched buffer run (vpn_of a.address)) (room : length buffer ≡ 512) where
+  -- the bytes are left alone where the buffer is
+  same_bytes : (reply : Reply) → AccessGives (machine r buffer tables) a reply (buffer_of buffer)
+      → AccessGivesBytes (machine r buffer tables) a reply buffer
+  same_bytes reply g =
+      record { reply-is = g.reply-is; buffer-is = sym (bytes_back buffer f.are-bytes room) ∙ ap buffer_bytes g.buffer-is }
+
+  pub stands : (reply : Reply) → (first.value ≡ 8 → ⊥) → reply ≡ tried_reply first 0
+      → AccessGivesBytes (machine r buffer tables) a reply buffer
+  stands reply h q = same_bytes reply (serve-tried (machine r buffer tables) a first fq reply h q)
+
+  pub miss-accepted : Accepted r (buffer_of buffer) a → Accepted first.registers (Wide run) a
+  miss-accepted p =
       let q = first-accepted r (buffer_of buffer) a first fq p in
       record { registers-fit = q.registers-fit; buffer-fits = run_fits run f.long; draw-fits = q.draw-fits }
 
-  pub loaded : (tables : List ℕ) (reply : Reply) (vpn : ℕ) (found : Walk) → first.value ≡ 8 → vpn ≡ vpn_of a.address
-      → found ≡ walk_page (words_of tables) r.context vpn → length buffer ≡ 512
-      → (leaf : Found) (run-after after : List ℕ) → found ≡ Leaf leaf
-      → RetryGives leaf first.registers (Wide run) a reply (Wide run-after) → length run-after ≡ 64 → Within 8 run-after → after ≡ put_back run-after vpn 4 buffer
-      → AccessGives (machine r buffer tables) a reply (buffer_of after)
-  loaded tables reply vpn found h vq wq room leaf run-after after lq g long within aq =
-      let q = first-accepted r (buffer_of buffer) a first fq p in
-      let same = fetched-same buffer run (vpn_of a.address) f in
-      serve-loaded (machine r buffer tables) a first fq reply vpn found h vq wq leaf _ lq (record {
-        reply-is =
-            g.reply-is
-            ∙ loaded-reply-same first.registers (Wide run) (buffer_of buffer) a miss-accepted q same leaf;
-        buffer-is =
-            ap buffer_of (aq ∙ ap (λ (v : ℕ). put_back run-after v 4 buffer) vq)
-            ∙ put-back first.registers buffer run a f room (draw-lt a.draw p.draw-fits) leaf run-after long within
-            g.buffer-is;
-      })
+  module _ (reply : Reply) (vpn : ℕ) (found : Walk) (h : first.value ≡ 8) (vq : vpn ≡ vpn_of a.address)
+      (wq : found ≡ walk_page (words_of tables) r.context vpn) where
+    pub final : (value : ℕ) → OneOf (1 ∷ 2 ∷ []) (tag_of the_type found) → value ≡ walk_fault found
+        → reply ≡ answered first.registers (Fault value) 0 → AccessGivesBytes (machine r buffer tables) a reply buffer
+    final value k v q = same_bytes reply (serve-final (machine r buffer tables) a first fq reply vpn found h vq wq value k v q)
+
+    pub loaded : Accepted r (buffer_of buffer) a → (leaf : Found) (run-after after : List ℕ) → found ≡ Leaf leaf
+        → RetryGives leaf first.registers (Wide run) a reply (Wide run-after) → after ≡ put_back run-after vpn 4 buffer
+        → AccessGivesBytes (machine r buffer tables) a reply after
+    loaded p leaf run-after after lq g aq =
+        let q = first-accepted r (buffer_of buffer) a first fq p in
+        let same = fetched-same buffer run (vpn_of a.address) f in
+        let whole = serve-loaded (machine r buffer tables) a first fq reply vpn found h vq wq leaf _ lq (record {
+          reply-is =
+              g.reply-is
+              ∙ loaded-reply-same first.registers (Wide run) (buffer_of buffer) a (miss-accepted p) q same leaf;
+          buffer-is = refl;
+        }) in
+        record {
+          reply-is = whole.reply-is;
+          buffer-is =
+              aq
+              ∙ ap (λ (v : ℕ). put_back run-after v 4 buffer) vq
+              ∙ put-back first.registers buffer run a f room (draw-lt a.draw p.draw-fits) leaf run-after g.buffer-is
+              ∙ ap buffer_bytes whole.buffer-is;
+        }
 
 -- a reply has room in its bits of the answer
 abbrev pub ReplyFits : Reply → Type 0
@@ -107,10 +126,8 @@ access-fits m a = by-try (missed (first_try m a))
     by-try true = miss-fits (walk_for m a) (first_try m a).registers m.buffer a
     by-try false = tried-fits (first_try m a) 0 (translate-value-le m.registers m.buffer a) (omega arith)
 
-pub reply-fits : (m : Machine) (a : Access) (reply : Reply) (after : Buffer) (words : List ℕ) → MarkedGives m a reply after words
-    → ReplyFits reply
-unfolding marked_reply
-reply-fits m a reply after words g = subst ReplyFits (sym g.reply-is) (access-fits m a)
+pub reply-fits : (m : Machine) (a : Access) (reply : Reply) (after : List ℕ) → AccessGivesBytes m a reply after → ReplyFits reply
+reply-fits m a reply after g = subst ReplyFits (sym g.reply-is) (access-fits m a)
 
 -- a try without an exception is no miss, and its answer is the reply's
 module _ (r : Registers) (t : Translation) (p : Plain r t) where
@@ -124,11 +141,11 @@ module _ (r : Registers) (t : Translation) (p : Plain r t) where
 
 -- the refusal by the registers' length and by what the code tests then
 module _ (registers buffer tables : List ℕ) (a : Access) where
-  pub refusal-short : (length registers ≡ REGISTER_BYTES → ⊥) → 1 ≡ served_refusal registers buffer tables a
+  pub refusal-short : (length registers ≡ 44 → ⊥) → 1 ≡ served_refusal registers buffer tables a
   unfolding served_refusal
   refusal-short h = short-refusal registers _ h
 
-  pub refusal-long : (r : Registers) (n : ℕ) → length registers ≡ REGISTER_BYTES → r ≡ registers_of registers
+  pub refusal-long : (r : Registers) (n : ℕ) → length registers ≡ 44 → r ≡ registers_of registers
       → n ≡ machine_refusal (registers_fit r) (buffer_taken buffer) (tables_taken tables) (service_refusal r a.draw)
       → n ≡ served_refusal registers buffer tables a
   unfolding served_refusal
@@ -147,13 +164,12 @@ module _ (registers buffer tables : List ℕ) (a : Access) (n : ℕ) (nq : n ≡
       (refusal-room (may_be_served (registers_of registers)) 5 0 (omega arith) (omega arith))))
 
   pub refused : (answer : ℕ) → (n ≡ 0 → ⊥) → answer ≡ refusal_answer n
-      → ServedAccessGives registers buffer tables a answer registers buffer tables
-  unfolding served_number served_registers served_bytes served_tables
+      → ServedAccessGives registers buffer tables a answer registers buffer
+  unfolding served_number served_registers served_bytes
   refused answer h q = record {
     answer-is = when-refused _ n nq _ _ _ h (q ∙ ap refusal_answer nq);
     registers-are = when-refused _ n nq _ _ _ h refl;
     buffer-is = when-refused _ n nq _ _ _ h refl;
-    tables-are = when-refused _ n nq _ _ _ h refl;
   }
 
   -- an access that is not refused
@@ -162,8 +178,8 @@ module _ (registers buffer tables : List ℕ) (a : Access) (n : ℕ) (nq : n ≡
     unfolding served_refusal
     told = handed registers buffer tables _ n nq z
 
-    pub lengths : (length registers ≡ REGISTER_BYTES) × (length buffer ≡ 512) × (256 ≤ length tables) × (length tables % 4 ≡ 0)
-    lengths = (told.registers-long, told.buffer-long, told.tables-long, told.tables-whole)
+    pub lengths : (length registers ≡ 44) × (length buffer ≡ 512) × (256 ≤ length tables)
+    lengths = (told.registers-long, told.buffer-long, told.tables-long)
 
     pub accepted : (r : Registers) → r ≡ registers_of registers → Accepted r (buffer_of buffer) a
     accepted r rq = record {
@@ -172,43 +188,31 @@ module _ (registers buffer tables : List ℕ) (a : Access) (n : ℕ) (nq : n ≡
       draw-fits = (passed (draw_fits a.draw) 4 _ (λ e. omega arith) told.later-passed).0;
     }
 
-    module _ (r : Registers) (rq : r ≡ registers_of registers) where
-      pub served : (reply : Reply) (buffer-after tables_after : List ℕ)
-          → MarkedGives (machine r buffer tables) a reply (buffer_of buffer-after) (words_of tables_after)
-          → AreBytes buffer-after → length buffer-after ≡ length buffer → AreBytes tables_after → length tables_after ≡ length tables
-          → (answer : ℕ) (registers-after : List ℕ) → registers-after ≡ register_bytes reply.registers → answer ≡ reply_answer reply
-          → ServedAccessGives registers buffer tables a answer registers-after buffer-after tables_after
-      unfolding served_number served_registers served_bytes served_tables served_reply served_buffer served_words machine_of
-      served reply buffer-after tables_after g b-are bl t-are tl answer registers-after p q =
-          let whole : reply ≡ marked_reply (machine (registers_of registers) buffer tables) a =
-          g.reply-is ∙ ap (λ (s : Registers). marked_reply (machine s buffer tables) a) rq in
-          record {
-            answer-is = when-accepted _ n nq _ _ _ z (q ∙ ap reply_answer whole);
-            registers-are = when-accepted _ n nq _ _ _ z (p ∙ ap (λ (s : Reply). register_bytes s.registers) whole);
-            buffer-is =
-                when-accepted _ n nq _ _ _ z
-                (sym (bytes_back buffer-after b-are (bl ∙ lengths.1))
-                ∙ ap buffer_bytes (g.buffer-is ∙ ap (λ (s : Registers). marked_buffer (machine s buffer tables) a) rq));
-            tables-are =
-                when-accepted _ n nq _ _ _ z
-                (sym (tables-back tables_after t-are (ap (λ (k : ℕ). k % 4) tl ∙ lengths.3))
-                ∙ ap table_bytes (g.words_are ∙ ap (λ (s : Registers). marked_words (machine s buffer tables) a) rq));
-          }
+    pub served : (r : Registers) (reply : Reply) (after : List ℕ) → r ≡ registers_of registers
+        → AccessGivesBytes (machine r buffer tables) a reply after → (answer : ℕ) (registers-after : List ℕ)
+        → registers-after ≡ register_bytes reply.registers → answer ≡ reply_answer reply
+        → ServedAccessGives registers buffer tables a answer registers-after after
+    unfolding served_number served_registers served_bytes served_reply served_buffer machine_of
+    served r reply after rq g answer registers-after p q =
+        let whole : reply ≡ access_reply (machine (registers_of registers) buffer tables) a =
+        g.reply-is ∙ ap (λ (s : Registers). access_reply (machine s buffer tables) a) rq in
+        record {
+          answer-is = when-accepted _ n nq _ _ _ z (q ∙ ap reply_answer whole);
+          registers-are = when-accepted _ n nq _ _ _ z (p ∙ ap (λ (s : Reply). register_bytes s.registers) whole);
+          buffer-is =
+              when-accepted _ n nq _ _ _ z
+              (g.buffer-is ∙ ap (λ (s : Registers). buffer_bytes (access_buffer (machine s buffer tables) a)) rq);
+        }
 
-      -- the first try had no exception, and nothing is marked: the bytes are left alone
-      pub plain-served : (first : Translation) (may : Bool) → first ≡ translate r (buffer_of buffer) a
-          → may ≡ may_mark r.edition r.enable r.kseg a → AreBytes registers → AreBytes buffer → AreBytes tables
-          → not first.exception && not may ≡ true → (answer : ℕ) → answer ≡ translation_answer first
-          → ServedAccessGives registers buffer tables a answer registers buffer tables
-      unfolding tried_reply reply_answer
-      plain-served first may fq mq r-are b-are t-are h answer q =
-          let t = both (not first.exception) (not may) h in
-          let p = plain r (buffer_of buffer) a first fq (not-true first.exception t.0) in
-          let m = machine r buffer tables in
-          let g = serve-tried m a first fq (tried_reply first 0) (plain_value r first p) refl in
-          served (tried_reply first 0) buffer tables
-          (marked-gives m a _ _ g (tried_reply first 0) (words_of tables) (buffer_of buffer) 0
-          (marks-off _ _ _ _ _ _ _ _ may mq t.1) refl)
-          b-are refl t-are refl answer registers
-          (sym (registers-back registers r-are lengths.0) ∙ ap register_bytes (sym rq ∙ sym (plain-registers r first p)))
-          (q ∙ plain-answer r first p)
+    -- the first try had no exception: the bytes are left alone
+    pub plain-served : (r : Registers) (first : Translation) (run : List ℕ) → r ≡ registers_of registers
+        → first ≡ translate r (buffer_of buffer) a → Fetched buffer run (vpn_of a.address) → AreBytes registers
+        → not first.exception ≡ true → (answer : ℕ) → answer ≡ translation_answer first
+        → ServedAccessGives registers buffer tables a answer registers buffer
+    unfolding tried_reply
+    plain-served r first run rq fq f are h answer q =
+        let p = plain r (buffer_of buffer) a first fq (not-true first.exception h) in
+        served r (tried_reply first 0) buffer rq
+        (stands r buffer tables run a first fq f lengths.1 (tried_reply first 0) (plain_value r first p) refl) answer registers
+        (sym (registers-back registers are lengths.0) ∙ ap register_bytes (sym rq ∙ sym (plain-registers r first p)))
+        (q ∙ plain-answer r first p)

@@ -18,7 +18,7 @@ use Rattle.control.specs.Setting.{is_guarded, switch_fits, argument_refusal, set
 use Rattle.control.proofs.CallLaws.{setting-accepted}
 use Rattle.control.specs.Setting.{setting_refusal as unit_refusal}
 use Rattle.control.specs.Setting.{GuardedSettingGives as UnitSettingGives}
-use Rattle.mmu_c.specs.Runs.{REGISTER_BYTES, registers_of, registers_taken}
+use Rattle.mmu_c.specs.Runs.{registers_of, registers_taken}
 use Rattle.mmu_c.specs.Answers.{refusal_answer, outcome_answer, reply_answer, outcome_fits}
 use Rattle.mmu_c.specs.GuardedSetting.{setting_refusal, setting_number, setting_registers, GuardedSettingGives}
 use Rattle.mmu_c.proofs.AnswerLaws.{refusal-room}
@@ -59,15 +59,15 @@ module _ (registers : List ℕ) (number value : ℕ) where
   unfolding setting_refusal
   refusal-lt = refusal-room (registers_taken registers) 1 _ (omega arith) (argument-lt _ _)
 
-  -- the registers have another length
-  pub short : (answer : ℕ) → (length registers ≡ REGISTER_BYTES → ⊥) → answer ≡ refusal_answer 1
+  -- the registers are not 44 bytes
+  pub short : (answer : ℕ) → (length registers ≡ 44 → ⊥) → answer ≡ refusal_answer 1
       → GuardedSettingGives registers number value answer registers
   unfolding setting_number setting_registers setting_refusal
   short answer h q =
       let nq = short-refusal registers _ h in
       record { answer-is = q ∙ ap refusal_answer nq; registers-are = when-refused _ 1 nq _ _ _ (λ e. omega arith) refl }
 
-  module _ (r : Registers) (reply : Reply) (e : length registers ≡ REGISTER_BYTES) (rq : r ≡ registers_of registers)
+  module _ (r : Registers) (reply : Reply) (e : length registers ≡ 44) (rq : r ≡ registers_of registers)
       (g : UnitSettingGives r number value reply) where
     same-refusal : unit_refusal r number value ≡ setting_refusal registers number value
     unfolding unit_refusal setting_refusal

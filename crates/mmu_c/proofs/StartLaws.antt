@@ -1,7 +1,6 @@
 -- The ways through a start. Assumes nothing.
 use Prim.Native.Nat.{ℕ, zero, suc, ◌%◌, ◌^◌, ◌≤◌}
 use mathlib.Core.Path.{◌≡◌, refl, sym, ap, ◌∙◌}
-use mathlib.Core.Bool.{true}
 use mathlib.Core.List.{List, [], ◌∷◌, ◌++◌, append_assoc}
 use native.Mathlib.Omega.{arith}
 use lib.ListN.{length, set, drop, length-append}
@@ -9,8 +8,7 @@ use lib.Seq.{set_at, drop-cons, drop-length}
 use borrow.Author.Tests.{eq-eqb, ne_eqb}
 use Rattle.wire.specs.Wire.{encoded, decoded}
 use Rattle.wire.proofs.Elements.{decoded-length}
-use Rattle.registers.specs.Fields.{edition_fits}
-use Rattle.registers.specs.Fields.{start_registers as unit_registers}
+use Rattle.registers.specs.Fields.{zero_registers}
 use Rattle.registers.specs.Refusals.{refuse_unless, by_refusal}
 use Rattle.registers.proofs.RefusalLaws.{when-accepted, when-refused}
 use Rattle.registers.specs.declared.Reply.{Reply}
@@ -22,7 +20,7 @@ use Rattle.slots.specs.Start.{empty_first, start_buffer}
 use Rattle.control.specs.Starting.{start_reply, started_buffer}
 use Rattle.control.specs.Starting.{start_refusal as unit_refusal}
 use Rattle.control.specs.Starting.{StartGives as UnitStartGives}
-use Rattle.mmu_c.specs.Runs.{REGISTER_BYTES, registers_long, register_bytes, buffer_of, buffer_bytes, buffer_taken}
+use Rattle.mmu_c.specs.Runs.{registers_long, register_bytes, buffer_of, buffer_bytes, buffer_taken}
 use Rattle.mmu_c.specs.Answers.{refusal_answer}
 use Rattle.mmu_c.specs.Start.{start_refusal, start_number, start_registers, start_bytes, StartGives}
 use Rattle.mmu_c.proofs.Locations.{run_fits}
@@ -57,34 +55,33 @@ start-run run e =
 pub start-any : (run other : List ℕ) → length run ≡ 64 → length other ≡ 64 → start_buffer (Wide run) ≡ start_buffer (Wide other)
 start-any run other e f = start-run run e ∙ sym (start-run other f)
 
--- ---- the call over words, handed an edition and a run that fit
+-- ---- the call over words, handed a run that fits
 
-pub record UnitStarted (edition : ℕ) (run run-after : List ℕ) (reply : Reply) : Type 0 where
-  pub registers-are : reply.registers ≡ unit_registers edition
+pub record UnitStarted (run run-after : List ℕ) (reply : Reply) : Type 0 where
+  pub registers-are : reply.registers ≡ zero_registers
   pub buffer-is : Wide run-after ≡ start_buffer (Wide run)
 
-unit-started : (edition : ℕ) (run run-after : List ℕ) (reply : Reply) → edition_fits edition ≡ true → length run ≡ 64
-    → UnitStartGives edition (Wide run) (Wide run-after) reply → UnitStarted edition run run-after reply
+unit-started : (run run-after : List ℕ) (reply : Reply) → length run ≡ 64 → UnitStartGives (Wide run) (Wide run-after) reply
+    → UnitStarted run run-after reply
 unfolding start_reply started_buffer unit_refusal refuse_unless by_refusal
-unit-started edition run run-after reply known e g = record {
-  registers-are = ap (λ (s : Reply). s.registers) g.reply-is ∙ rw (known, run_fits run e);
-  buffer-is = g.buffer-is ∙ rw (known, run_fits run e);
+unit-started run run-after reply e g = record {
+  registers-are = ap (λ (s : Reply). s.registers) g.reply-is ∙ rw (run_fits run e);
+  buffer-is = g.buffer-is ∙ rw (run_fits run e);
 }
 
 -- ---- the ways through the call
 
-module _ (edition : ℕ) (registers buffer : List ℕ) where
-  pub short : (length registers ≡ REGISTER_BYTES → ⊥) → 1 ≡ start_refusal edition registers buffer
+module _ (registers buffer : List ℕ) where
+  pub short : (length registers ≡ 44 → ⊥) → 1 ≡ start_refusal registers buffer
   unfolding start_refusal registers_long refuse_unless
-  short h = sym (rw (ne_eqb (length registers) REGISTER_BYTES h))
+  short h = sym (rw (ne_eqb (length registers) 44 h))
 
-  pub long : (n : ℕ) → length registers ≡ REGISTER_BYTES
-      → n ≡ refuse_unless (edition_fits edition) 1 (refuse_unless (buffer_taken buffer) 2 0) → n ≡ start_refusal edition registers buffer
+  pub long : (n : ℕ) → length registers ≡ 44 → n ≡ refuse_unless (buffer_taken buffer) 2 0 → n ≡ start_refusal registers buffer
   unfolding start_refusal registers_long refuse_unless
-  long n h q = q ∙ sym (rw (eq-eqb (length registers) REGISTER_BYTES h))
+  long n h q = q ∙ sym (rw (eq-eqb (length registers) 44 h))
 
-  pub refused : (n answer : ℕ) → n ≡ start_refusal edition registers buffer → (n ≡ 0 → ⊥) → answer ≡ refusal_answer n
-      → StartGives edition registers buffer answer registers buffer
+  pub refused : (n answer : ℕ) → n ≡ start_refusal registers buffer → (n ≡ 0 → ⊥) → answer ≡ refusal_answer n
+      → StartGives registers buffer answer registers buffer
   unfolding start_number start_registers start_bytes
   refused n answer nq h q = record {
     answer-is = q ∙ ap refusal_answer nq;
@@ -92,13 +89,13 @@ module _ (edition : ℕ) (registers buffer : List ℕ) where
     buffer-is = when-refused _ n nq _ _ _ h refl;
   }
 
-  pub started : (run run-after registers-after buffer-after : List ℕ) (reply : Reply) → 0 ≡ start_refusal edition registers buffer
-      → edition_fits edition ≡ true → length run ≡ 64 → UnitStartGives edition (Wide run) (Wide run-after) reply
+  pub started : (run run-after registers-after buffer-after : List ℕ) (reply : Reply) → 0 ≡ start_refusal registers buffer
+      → length run ≡ 64 → UnitStartGives (Wide run) (Wide run-after) reply
       → registers-after ≡ register_bytes reply.registers → buffer-after ≡ encoded 8 run-after
-      → StartGives edition registers buffer 0 registers-after buffer-after
+      → StartGives registers buffer 0 registers-after buffer-after
   unfolding start_number start_registers start_bytes buffer_of buffer_bytes refusal_answer
-  started run run-after registers-after buffer-after reply nq known e g rq bq =
-      let s = unit-started edition run run-after reply known e g in
+  started run run-after registers-after buffer-after reply nq e g rq bq =
+      let s = unit-started run run-after reply e g in
       record {
         answer-is = ap refusal_answer nq;
         registers-are = when-accepted _ 0 nq _ _ _ refl (rq ∙ ap register_bytes s.registers-are);

@@ -13,7 +13,7 @@ unfoldable pub raw_refusal : (registers buffer : List ℕ) → Access → ℕ
 raw_refusal registers buffer a =
     refuse_unless (registers_taken registers) 1 (refuse_unless (buffer_taken buffer) 2 (refuse_unless (draw_fits a.draw) 4 0))
 
--- the same, once the registers have their length
+-- the same, once the registers are 44 bytes
 abbrev pub long_refusal : Registers → (buffer : List ℕ) → Access → ℕ
 long_refusal r buffer a = refuse_unless (registers_fit r) 1 (refuse_unless (buffer_taken buffer) 2 (refuse_unless (draw_fits a.draw) 4 0))
 

@@ -10,12 +10,12 @@ use Rattle.table_bytes.specs.TableBytes.{words_of}
 
 -- how many bytes registers and buffer have
 abbrev pub REGISTER_BYTES : ℕ
-REGISTER_BYTES = 48
+REGISTER_BYTES = 44
 
 abbrev pub BUFFER_BYTES : ℕ
 BUFFER_BYTES = 512
 
--- "the registers as 44: four for each number 0 to 9, then four for exception value × 2 + write bit"; and then four for the edition
+-- "the registers as 44: four for each number 0 to 9, then four for exception value × 2 + write bit"
 unfoldable pub registers_of : (bytes : List ℕ) → Registers
 registers_of bytes = from_words (decoded 4 bytes FIELDS)
 
@@ -28,10 +28,6 @@ buffer_of bytes = Wide (decoded 8 bytes 64)
 
 unfoldable pub buffer_bytes : Buffer → List ℕ
 buffer_bytes (Wide numbers) = encoded 8 numbers
-
--- four for each of the tables' words
-unfoldable pub table_bytes : (words : List ℕ) → List ℕ
-table_bytes words = encoded 4 words
 
 -- "a wrong byte length is number 1 for the registers"
 unfoldable pub registers_long : (bytes : List ℕ) → Bool

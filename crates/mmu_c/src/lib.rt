@@ -1,6 +1,5 @@
 // What a C host calls. Registers, buffer and tables are bytes, most significant first; an answer is one number of 64 bits.
 pub mod guarded_setting;
-mod marks;
 pub mod raw_access;
 pub mod served_access;
 pub mod start;
@@ -32,7 +31,7 @@ const BIT_54: u64 = 1 << 54;
 const BIT_56: u64 = 1 << 56;
 
 // How many bytes the registers have, the buffer, and the shortest and the longest tables; the shortest is also their step.
-const REGISTER_BYTES: usize = 4 * registers::FIELDS;
+const REGISTER_BYTES: usize = 44;
 
 const BUFFER_BYTES: usize = 512;
 
@@ -105,7 +104,7 @@ fn registers_of(bytes: &[u8]) -> Registers
     requires { length bytes.now ≡ REGISTER_BYTES }
     ensures { result ≡ registers_of bytes.now }
 {
-    let mut words = [0u32; registers::FIELDS];
+    let mut words = [0u32; 11];
     wire::decode32(bytes, &mut words);
     registers::from_words(words)
 }
@@ -118,7 +117,7 @@ fn put_registers(bytes: &mut [u8], r: Registers)
     wire::encode32(&words, bytes);
 }
 
-// The right length, and no field exceeds its bits.
+// 44 bytes, and no field exceeds its bits.
 fn registers_taken(bytes: &[u8]) -> bool
     ensures { result ≡ registers_taken bytes.now }
 {

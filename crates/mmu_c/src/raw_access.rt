@@ -4,7 +4,7 @@ ghost use Rattle.mmu_c.specs.RawAccess.{RawAccessGives, long_refusal};
 
 use registers::{Access, Registers, refusals};
 
-// The refusal once the registers have their length.
+// The refusal once the registers are 44 bytes.
 fn raw_refusal(r: Registers, buffer: &[u8], a: Access) -> u32
     ensures { result ≡ long_refusal r buffer.now a }
 {

@@ -5,18 +5,17 @@ ghost use Rattle.registers.specs.Fields.{registers_fit};
 ghost use Rattle.page_table.specs.Stretches.{ROOTS};
 ghost use Rattle.registers.specs.Refusals.{machine_refusal};
 ghost use Rattle.access.specs.Translation.{Accepted, translate};
-ghost use Rattle.mmu.specs.ServedAccess.{AccessGives, MarkedGives, service_refusal};
+ghost use Rattle.mmu.specs.ServedAccess.{service_refusal};
 ghost use Rattle.table_bytes.specs.TableBytes.{words_of};
 ghost use Rattle.mmu_c.specs.Location.{Fetched, put_back};
 ghost use Rattle.mmu_c.specs.Runs.{BUFFER_BYTES, buffer_of, buffer_taken, tables_taken};
-ghost use Rattle.mmu_c.specs.ServedAccess.{ServedAccessGives};
+ghost use Rattle.mmu_c.specs.ServedAccess.{AccessGivesBytes, ServedAccessGives};
 
-use crate::marks;
 use access::{MISS, Translation};
 use page_table::Walk;
 use registers::{Access, Outcome, Registers, Reply, refusals};
 
-// The refusal once the registers have their length.
+// The refusal once the registers are 44 bytes.
 fn served_refusal(r: Registers, buffer: &[u8], tables: &[u8], a: Access) -> u32
     ensures { result ≡ machine_refusal (registers_fit r) (buffer_taken buffer.now) (tables_taken tables.now)
         (service_refusal r a.draw) }
@@ -45,7 +44,7 @@ fn put_back(slots: &[u64], buffer: &mut [u8], vpn: u32)
     }
 }
 
-// An access after its first try. A miss is followed by a walk, which gives a leaf or the fault; what is loaded is put back.
+// An access whose first try had an exception. A miss is followed by a walk, which gives a leaf or the fault; what is loaded is put back.
 fn serve(
     r: Registers,
     first: Translation,
@@ -56,9 +55,9 @@ fn serve(
 ) -> Reply
     requires { Accepted r (buffer_of buffer.old) a × (length buffer.old ≡ BUFFER_BYTES) × (4 * ROOTS ≤ length tables.now)
         × (first ≡ translate r (buffer_of buffer.old) a) × Fetched buffer.old slots.old (vpn_of a.address) }
-    ensures { AccessGives
+    ensures { AccessGivesBytes
         (record { registers = r; buffer = buffer_of buffer.old; words = words_of tables.now }) a result
-        (buffer_of buffer.new) }
+        buffer.new }
 {
     if first.value != MISS {
         return mmu::tried_reply(first, 0);
@@ -75,37 +74,16 @@ fn serve(
     reply
 }
 
-// Serves an access after its first try, and then makes its mark.
-fn serve_and_mark(
-    r: Registers,
-    first: Translation,
-    buffer: &mut [u8],
-    tables: &mut [u8],
-    slots: &mut [u64],
-    a: Access,
-) -> Reply
-    requires { Accepted r (buffer_of buffer.old) a × (length buffer.old ≡ BUFFER_BYTES) × (4 * ROOTS ≤ length tables.old)
-        × (first ≡ translate r (buffer_of buffer.old) a) × Fetched buffer.old slots.old (vpn_of a.address) }
-    ensures { MarkedGives
-        (record { registers = r; buffer = buffer_of buffer.old; words = words_of tables.old }) a result
-        (buffer_of buffer.new) (words_of tables.new) }
-{
-    let reply = serve(r, first, buffer, tables, slots, a);
-    let outcome = reply.outcome;
-    let emptied = marks::mark(r, outcome, buffer, tables, slots, a);
-    registers::marked(reply, emptied)
-}
-
 fn served_with(
     registers: &mut [u8],
     buffer: &mut [u8],
-    tables: &mut [u8],
+    tables: &[u8],
     slots: &mut [u64],
     a: Access,
 ) -> u64
     requires { length slots.old ≡ 64 }
-    ensures { ServedAccessGives registers.old buffer.old tables.old a result
-        registers.new buffer.new tables.new }
+    ensures { ServedAccessGives registers.old buffer.old tables.now a result
+        registers.new buffer.new }
 {
     if registers.len() != crate::REGISTER_BYTES {
         return crate::refusal_answer(refusals::REGISTERS);
@@ -116,11 +94,11 @@ fn served_with(
         return crate::refusal_answer(refusal);
     }
     let first = crate::first_try(r, buffer, slots, a);
-    // Without an exception and a mark every byte is as it was.
-    if !first.exception & !mmu::marks::may_mark(r, a) {
+    // Without an exception the registers and the buffer are as they were.
+    if !first.exception {
         return crate::translation_answer(first);
     }
-    let reply = serve_and_mark(r, first, buffer, tables, slots, a);
+    let reply = serve(r, first, buffer, tables, slots, a);
     let after = reply.registers;
     crate::put_registers(registers, after);
     crate::reply_answer(reply)
@@ -131,15 +109,14 @@ fn served_with(
 pub extern "C" fn mmu_served_access(
     registers: &mut [u8],
     buffer: &mut [u8],
-    tables: &mut [u8],
+    tables: &[u8],
     address: u32,
     user: bool,
     write: bool,
     draw: u32,
 ) -> u64
-    ensures { ServedAccessGives registers.old buffer.old tables.old
-        (record { address = address; user = user; write = write; draw = draw }) result registers.new buffer.new
-        tables.new }
+    ensures { ServedAccessGives registers.old buffer.old tables.now
+        (record { address = address; user = user; write = write; draw = draw }) result registers.new buffer.new }
 {
     let a = Access {
         address,

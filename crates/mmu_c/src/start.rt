@@ -4,33 +4,28 @@ ghost use Rattle.mmu_c.specs.Start.{StartGives};
 
 use registers::refusals;
 
-fn start_with(registers: &mut [u8], buffer: &mut [u8], slots: &mut [u64], edition: u32) -> u64
+fn start_with(registers: &mut [u8], buffer: &mut [u8], slots: &mut [u64]) -> u64
     requires { length slots.old ≡ 64 }
-    ensures { StartGives edition registers.old buffer.old result registers.new
-        buffer.new }
+    ensures { StartGives registers.old buffer.old result registers.new buffer.new }
 {
     if registers.len() != crate::REGISTER_BYTES {
-        return crate::refusal_answer(refusals::REGISTERS);
-    }
-    if !registers::edition_fits(edition) {
         return crate::refusal_answer(refusals::REGISTERS);
     }
     if !crate::buffer_taken(buffer) {
         return crate::refusal_answer(refusals::BUFFER);
     }
-    let reply = control::start(slots, edition);
+    let reply = control::start(slots);
     let after = reply.registers;
     crate::put_registers(registers, after);
     wire::encode64(slots, buffer);
     0
 }
 
-// Makes all registers 0 but the edition, and every slot empty.
+// Makes all registers 0 and every slot empty.
 #[unsafe(no_mangle)]
-pub extern "C" fn mmu_start(registers: &mut [u8], buffer: &mut [u8], edition: u32) -> u64
-    ensures { StartGives edition registers.old buffer.old result registers.new
-        buffer.new }
+pub extern "C" fn mmu_start(registers: &mut [u8], buffer: &mut [u8]) -> u64
+    ensures { StartGives registers.old buffer.old result registers.new buffer.new }
 {
     let mut slots = [0u64; 64];
-    start_with(registers, buffer, &mut slots, edition)
+    start_with(registers, buffer, &mut slots)
 }

@@ -11,9 +11,6 @@ use heap::{Mapped, Pool};
 use mmu::RawReply;
 use registers::{Access, Outcome, Registers, Reply};
 
-// The scenario whose accesses are writes.
-const WRITES: u32 = 11;
-
 // Register numbers.
 const SELECT: u32 = 6;
 
@@ -75,14 +72,14 @@ fn counted(sum: u64, reply: Reply) -> u64 {
     std::num::wrapping_add_u64(sum, more)
 }
 
-// A user's access of a page.
-fn accessing(page: u32, offset: u32, write: bool, draw: u32) -> Access
+// A user's read of a page.
+fn reading(page: u32, offset: u32, draw: u32) -> Access
     requires { (page < PAGES) × (offset < PAGE) }
 {
     Access {
         address: page * entry::PAGE + offset,
         user: true,
-        write,
+        write: false,
         draw,
     }
 }
@@ -92,9 +89,9 @@ fn access_of(scenario: u32, i: u64) -> Access
     requires { i < 2 ^ 32 }
 {
     if scenario == 2 {
-        return accessing(((64 + i) % 80) as u32, 0, false, ((i / 16) % 4) as u32);
+        return reading(((64 + i) % 80) as u32, 0, ((i / 16) % 4) as u32);
     }
-    accessing(((7 * i) % 64) as u32, 291, scenario == WRITES, 0)
+    reading(((7 * i) % 64) as u32, 291, 0)
 }
 
 fn address_of(physical: Physical) -> u64 {
@@ -123,14 +120,8 @@ fn run_raw(r: Registers, buffer: &[u64], count: u32) -> u64 {
     sum
 }
 
-// Scenarios 1, 2 and 11: served accesses.
-fn run_served(
-    r: Registers,
-    buffer: &mut [u64],
-    words: &mut [u32],
-    scenario: u32,
-    count: u32,
-) -> u64 {
+// Scenarios 1 and 2: served accesses.
+fn run_served(r: Registers, buffer: &mut [u64], words: &[u32], scenario: u32, count: u32) -> u64 {
     let mut registers = r;
     let mut sum: u64 = 0;
     let mut i: u64 = 0;
@@ -385,11 +376,11 @@ fn settings(r: Registers) -> Registers {
 }
 
 // Pages 0 to 63, one in each slot.
-fn fill(r: Registers, buffer: &mut [u64], words: &mut [u32]) -> Registers {
+fn fill(r: Registers, buffer: &mut [u64], words: &[u32]) -> Registers {
     let mut registers = r;
     let mut page: u32 = 0;
     while page < 64 {
-        let a = accessing(page, 0, false, page / 16);
+        let a = reading(page, 0, page / 16);
         let reply = mmu::served_access(
             registers, buffer, words, a.address, a.user, a.write, a.draw,
         );
@@ -399,13 +390,8 @@ fn fill(r: Registers, buffer: &mut [u64], words: &mut [u32]) -> Registers {
     registers
 }
 
-// The edition that a scenario is in.
-fn edition_of(scenario: u32) -> u32 {
-    if scenario == WRITES { 2 } else { 1 }
-}
-
-fn prepare(buffer: &mut [u64], words: &mut [u32], edition: u32) -> Registers {
-    let started = control::start(buffer, edition);
+fn prepare(buffer: &mut [u64], words: &mut [u32]) -> Registers {
+    let started = control::start(buffer);
     let r = started.registers;
     build(r, buffer, words);
     let enabled = settings(r);
@@ -417,7 +403,7 @@ fn pace(buffer: &mut [u64], words: &mut [u32]) {
     io::read_full(0, &mut bytes);
     let scenario = wire::word_at(&bytes, 0);
     let count = wire::word_at(&bytes, 1);
-    let r = prepare(buffer, words, edition_of(scenario));
+    let r = prepare(buffer, words);
     let sum = run(r, buffer, words, scenario, count);
     let mut answer = [0u8; 8];
     wire::put_number(&mut answer, 0, sum);

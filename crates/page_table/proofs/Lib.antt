@@ -6,4 +6,3 @@ pub mod Ends
 pub mod FaultLaws
 pub mod Stops
 pub mod Ways
-pub mod Marked

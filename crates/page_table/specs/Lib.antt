@@ -5,4 +5,3 @@ pub mod Faults
 pub mod Reads
 pub mod Ends
 pub mod Stops
-pub mod Marked

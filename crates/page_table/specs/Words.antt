@@ -13,7 +13,7 @@ reserved w = bits 30 16 w
 unfoldable pub number : ℕ → ℕ
 number w = bits 15 0 w
 
--- "Leaf: present 1, valid 1, kernel 1, we 1, software 9, pfn 19." No walk, load or sweep reads the software bits 27 to 19.
+-- "Leaf: present 1, valid 1, kernel 1, we 1, software 9, pfn 19." Nothing reads the software bits 27 to 19.
 unfoldable pub leaf_valid : ℕ → Bool
 leaf_valid w = flag 30 w
 
@@ -22,10 +22,6 @@ leaf_kernel w = flag 29 w
 
 unfoldable pub leaf_we : ℕ → Bool
 leaf_we w = flag 28 w
-
--- "Leaf software bit 27 is a written mark"
-unfoldable pub leaf_written : ℕ → Bool
-leaf_written w = flag 27 w
 
 unfoldable pub leaf_pfn : ℕ → ℕ
 leaf_pfn w = bits 18 0 w

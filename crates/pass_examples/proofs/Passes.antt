@@ -8,8 +8,7 @@ use Rattle.runs.specs.Counts.{all, count}
 use Rattle.entry.specs.Address.{location, vpn15_of, set_of, vpn_at}
 use Rattle.entry.specs.Entry.{unpack, join, low_bits, pack, same_low, same_entry}
 use Rattle.entry.specs.Empty.{empty_fields, empty_entry}
-use Rattle.registers.specs.Fields.{to_words, from_words, field, put, widths, edition_fits, fits_at, registers_fit, zero_registers}
-use Rattle.registers.specs.Fields.{start_registers}
+use Rattle.registers.specs.Fields.{to_words, from_words, field, widths, fits_at, registers_fit, zero_registers}
 use Rattle.registers.specs.Refusals.{refuse_unless, by_refusal}
 use Rattle.registers.specs.Replies.{done}
 use Rattle.page_table.specs.Words.{present, reserved, number, leaf_valid, leaf_kernel, leaf_we, leaf_pfn}
@@ -51,16 +50,16 @@ pub record Left : Type 0 where
 
 stores : Left
 unfolding emptied_in done_of after_stores after_store store_reply buffer_after_store words_after_store stored_words store_refusal index_fits
-    refuse_unless by_refusal registers_fit all fits_at edition_fits field put to_words from_words widths zero_registers start_registers buffer_fits
-    tables_fit length_fits emptied count kept_at kept is_empty agrees_with_tables agrees_with_leaf swept swept_first swept_slot settled written
-    slot_at with_slot unpack pack join low_bits same_low same_entry empty_fields empty_entry set_of location vpn15_of vpn_at leaf_entry leaf_valid
-    leaf_kernel leaf_we leaf_pfn walk_page global_first walk_tree descend leaf_at stop_at index_below index_in stretch_size present broken inside
-    reserved number lent loaded empty start_buffer empty_first three-pages pages tree
+    refuse_unless by_refusal registers_fit all fits_at field to_words from_words widths zero_registers buffer_fits tables_fit length_fits
+    emptied count kept_at kept is_empty agrees_with_tables agrees_with_leaf swept swept_first swept_slot settled written slot_at with_slot
+    unpack pack join low_bits same_low same_entry empty_fields empty_entry set_of location vpn15_of vpn_at leaf_entry leaf_valid leaf_kernel
+    leaf_we leaf_pfn walk_page global_first walk_tree descend leaf_at stop_at index_below index_in stretch_size present broken inside reserved
+    number lent loaded empty start_buffer empty_first three-pages pages tree
 stores = record { empties = refl; sweeps = refl; writes = refl }
 
 -- the answer, by the slots emptied
 abbrev answer : (slots : ℕ) → Collected
-answer slots = record { reply = done (start_registers 1) slots; given = 1; pool = frames 0xFFF9 }
+answer slots = record { reply = done zero_registers slots; given = 1; pool = frames 0xFFF9 }
 
 answers : collect_answer (lent three-pages) two-held 5 ≡ answer 1
 unfolding collect_answer visited_by stores_of lent two-held frames given_of leaf_valid leaf_pfn pool_after_gives give_reply give_refusal refuse_unless
@@ -70,11 +69,11 @@ answers =
     (λ (n : ℕ) (ls : List Put).
     by_refusal n
     (record {
-      reply = done (start_registers 1) (emptied_in (lent three-pages) (aged_puts ls));
+      reply = done zero_registers (emptied_in (lent three-pages) (aged_puts ls));
       given = length (given_of ls);
       pool = pool_after_gives two-held (given_of ls);
     })
-    (refused_collect (start_registers 1) n two-held)) accepted visits
+    (refused_collect zero_registers n two-held)) accepted visits
     ∙ ap answer stores.empties
 
 buffer-left : buffer_after_collect (lent three-pages) two-held 5 ≡ empty

@@ -5,8 +5,7 @@ use mathlib.Core.Bool.{Bool, true, false, ◌&&◌}
 use mathlib.Core.List.{List}
 use lib.Dec.{leb}
 use Rattle.runs.specs.Counts.{all, any}
-use Rattle.registers.specs.Fields.{to_words, from_words, field, put, widths, edition_fits, fits_at, registers_fit, zero_registers}
-use Rattle.registers.specs.Fields.{start_registers}
+use Rattle.registers.specs.Fields.{to_words, from_words, field, widths, fits_at, registers_fit, zero_registers}
 use Rattle.registers.specs.Refusals.{refuse_unless}
 use Rattle.page_table.specs.Words.{leaf_pfn}
 use Rattle.page_table.specs.Stretches.{tables_fit}
@@ -28,8 +27,8 @@ use Rattle.pass_examples.proofs.Trees.{stands, no-tree-stands, lies-in-its-own, 
 -- registers, buffer and pool fit: so the run, the identification and the tree decide
 by-tree : (words : List ℕ) → tables_fit words ≡ true → (bits id : ℕ) (b : Bool) → may_collect words (frames bits) id ≡ b
     → collect_refusal (lent words) (frames bits) id ≡ refuse_unless (leb id 62) 5 (refuse_unless b 12 0)
-unfolding collect_refusal lent frames refuse_unless pool_fits frames_fit registers_fit all fits_at edition_fits field put to_words widths
-    zero_registers start_registers from_words buffer_fits loaded empty start_buffer empty_first with_slot
+unfolding collect_refusal lent frames refuse_unless pool_fits frames_fit registers_fit all fits_at field to_words widths zero_registers from_words
+    buffer_fits loaded empty start_buffer empty_first with_slot
 by-tree words fits bits id b e =
     ap₂ (λ (f t : Bool). refuse_unless f 3 (refuse_unless (leb id 62) 5 (refuse_unless t 12 0))) fits e
 

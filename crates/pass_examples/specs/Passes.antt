@@ -1,6 +1,6 @@
 -- Passes over small trees: what they visit, answer and leave, and what they are refused with.
 use Rattle.std.specs.Prelude.{◌≡◌, [], ◌∷◌, set}
-use Rattle.registers.specs.Fields.{start_registers}
+use Rattle.registers.specs.Fields.{zero_registers}
 use Rattle.registers.specs.Replies.{done}
 use Rattle.store.specs.Scan.{put_at}
 use Rattle.collector.specs.Visits.{pass_leaves, aged_puts}
@@ -14,7 +14,7 @@ pub record OnePass : Type 0 where
   -- the first loses its valid bit, the second its present bit
   pub stored : aged_puts (pass_leaves three-pages 100 3 5) ≡ put_at 1024 0x9FF80064 ∷ put_at 1025 0x10000065 ∷ []
   -- one slot emptied, one frame given back: 101
-  pub answered : collect_answer (lent three-pages) two-held 5 ≡ record { reply = done (start_registers 1) 1; given = 1; pool = frames 0xFFF9 }
+  pub answered : collect_answer (lent three-pages) two-held 5 ≡ record { reply = done zero_registers 1; given = 1; pool = frames 0xFFF9 }
   pub swept : buffer_after_collect (lent three-pages) two-held 5 ≡ empty
   pub left : words_after_collect (lent three-pages) two-held 5 ≡ set (set three-pages 1024 0x9FF80064) 1025 0x10000065
 

@@ -1,7 +1,7 @@
 -- The tables, pools and buffers that the examples are written with.
 use Rattle.std.specs.Prelude.{ℕ, true, false, List, ◌∷◌, set, replicate}
 use Rattle.entry.specs.Entry.{pack}
-use Rattle.registers.specs.Fields.{start_registers}
+use Rattle.registers.specs.Fields.{zero_registers}
 use Rattle.slots.specs.Buffer.{Buffer, with_slot}
 use Rattle.slots.specs.Buffer.Buffer.{Wide}
 use Rattle.slots.specs.Start.{start_buffer}
@@ -49,6 +49,5 @@ loaded =
     with_slot empty 16
     (pack (record { vpn15 = 0; page_id = 5; global = false; valid = true; kernel = false; we = true; pfn = 100 }))
 
--- registers as a start in edition 1 leaves them
 unfoldable pub lent : (words : List ℕ) → Machine
-lent words = record { registers = start_registers 1; buffer = loaded; words = words }
+lent words = record { registers = zero_registers; buffer = loaded; words = words }

@@ -61,7 +61,7 @@ const SLOTS: usize = 80;
 const SLOT_BYTES: usize = 8 * SLOTS;
 
 // How many bytes the registers have, and the bits of a pool.
-const REGISTER_BYTES: usize = 4 * registers::FIELDS;
+const REGISTER_BYTES: usize = 44;
 
 const POOL_BYTES: usize = 512;
 
@@ -223,7 +223,7 @@ fn call(q: Request, buffer: &mut [u64], tables: &mut [u32]) -> Answer
 {
     let r = q.registers;
     if q.kind == 0 {
-        return reply_answer(control::start(buffer, q.first));
+        return reply_answer(control::start(buffer));
     }
     if q.kind == 1 {
         return raw_answer(mmu::raw_access(
@@ -338,7 +338,7 @@ fn write_tables(kind: u32, tables: &[u32], bytes: &mut [u8])
 }
 
 // The request that a head of eight words, the registers and a state hold; a kind that is none where the input has ended.
-fn requested(got: bool, w: [u32; 8], fields: [u32; registers::FIELDS], state: State) -> Request {
+fn requested(got: bool, w: [u32; 8], fields: [u32; 11], state: State) -> Request {
     let registers = registers::from_words(fields);
     Request {
         kind: if got { w[0] } else { LAST_KIND + 1 },
@@ -358,7 +358,7 @@ fn read_request() -> Request {
     let mut words = [0u32; 8];
     let head = read_words(&mut bytes, &mut words);
     let mut field_bytes = [0u8; REGISTER_BYTES];
-    let mut fields = [0u32; registers::FIELDS];
+    let mut fields = [0u32; 11];
     let got = head & read_words(&mut field_bytes, &mut fields);
     let s = mups16_calls::read_state(words[0]);
     let state = s.state;

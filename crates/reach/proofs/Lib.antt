@@ -3,4 +3,3 @@ pub mod LinkLaws
 pub mod RootLaws
 pub mod StoreLaws
 pub mod PresentLaws
-pub mod MarkLaws

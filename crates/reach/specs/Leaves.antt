@@ -1,9 +1,8 @@
 -- Leaf words: the words at which walks end as their leaf.
-use Rattle.std.specs.Prelude.{ℕ, ◌/◌, ◌<◌, ◌≡◌, Bool, true, false, ◌&&◌, List, length, get_or, eqb}
+use Rattle.std.specs.Prelude.{ℕ, ◌/◌, ◌≡◌, Bool, false, ◌&&◌, List, length, get_or, eqb}
 use Rattle.runs.specs.Counts.{any, count}
 use Rattle.entry.specs.Address.{PAGES}
-use Rattle.page_table.specs.Words.{present, leaf_valid, leaf_written}
-use Rattle.page_table.specs.Marked.{marked_at}
+use Rattle.page_table.specs.Words.{present}
 use Rattle.page_table.specs.Walk.{walk_tree}
 use Rattle.page_table.specs.declared.Walk.{Walk}
 use Rattle.page_table.specs.declared.Walk.TheVariants.{Leaf, Absent, Broken}
@@ -27,8 +26,3 @@ leaf_count words = count (is_leaf_word words) (length words)
 -- A word is a leaf word exactly when it is present and stands in a reached table. Table t is words 1024t to 1024t+1023.
 abbrev pub LeafWords : Type 0
 LeafWords = (words : List ℕ) (index : ℕ) → is_leaf_word words index ≡ present (get_or words index 0) && table_reached words (index / 1024)
-
--- A word that is valid as a leaf and has no written mark gets it: the tables have as many leaf words as before.
-abbrev pub MarkLeavesCount : Type 0
-MarkLeavesCount = (words : List ℕ) (index : ℕ) → index < length words → leaf_valid (get_or words index 0) ≡ true →
-    leaf_written (get_or words index 0) ≡ false → leaf_count (marked_at words index) ≡ leaf_count words

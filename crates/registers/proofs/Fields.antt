@@ -2,57 +2,37 @@
 use Prim.Native.Nat.{ℕ, ◌^◌, ◌<◌}
 use mathlib.Core.Path.{◌≡◌, refl, sym, ap, ◌∙◌, subst}
 use mathlib.Core.Logic.{◌≢◌}
-use mathlib.Core.Bool.{Bool, true}
+use mathlib.Core.Bool.{true}
 use mathlib.Core.List.{List, [], ◌∷◌}
 use native.Mathlib.Nat.{zero-add}
 use native.Mathlib.Decide.{ℕ_discrete}
-use lib.Dec.{ltb, eqb, lit<}
+use lib.Dec.{ltb, eqb}
 use lib.ListN.{length, get_or, set, length-set}
 use lib.Seq.{get_or-set_same, get_or-set_other, set-set, ext_get_or}
-use borrow.Author.Tests.{ltb-true, eqb-true, ne_eqb}
-use native.Mathlib.Omega.{arith}
+use borrow.Author.Tests.{ltb-true, eqb-true}
 use Rattle.runs.specs.Counts.{all}
 use Rattle.runs.specs.Pieces.{tabulate}
 use Rattle.runs.proofs.Pieces.{tab-at}
 use Rattle.runs.proofs.Counts.{all-at, all_from}
-use Rattle.registers.specs.Fields.{to_words, from_words, field, put, widths, fits_at, edition_fits, registers_fit, EDITION, FIELDS}
+use Rattle.registers.specs.Fields.{to_words, from_words, field, put, widths, fits_at, registers_fit}
 use Rattle.registers.specs.declared.Registers.{Registers}
 
 -- the code's table of limits is the table of widths
 unfoldable pub limits : List ℕ
 limits = 65536 ∷ 8 ∷ 2 ∷ 4294967296 ∷ 4294967296 ∷ 64 ∷ 64 ∷ 33554432 ∷ 8388608 ∷ 2 ∷ 32 ∷ []
 
--- a field before the edition has values within its bits
-pub within-bits : (place value : ℕ) → place ≢ EDITION → ltb value (2 ^ get_or widths place 0) ≡ fits_at place value
-unfolding fits_at
-within-bits place value d = rw (ne_eqb place EDITION d) refl
-
-pub edition-at : (place value : ℕ) (t : Bool) → place ≡ EDITION → t ≡ edition_fits value → t ≡ fits_at place value
-unfolding fits_at
-edition-at place value t e q = rw e q
-
-pub limit-at : (place value : ℕ) → place ≢ EDITION → place < FIELDS → ltb value (get_or limits place 0) ≡ fits_at place value
-unfolding widths all limits
-limit-at place value d h =
+pub limit-at : (place value : ℕ) → place < 11 → ltb value (get_or limits place 0) ≡ fits_at place value
+unfolding fits_at widths all limits
+limit-at place value h =
     ap (ltb value) (eqb-true (get_or limits place 0) (2 ^ get_or widths place 0)
-    (all-at (λ k. eqb (get_or limits k 0) (2 ^ get_or widths k 0)) EDITION place refl (before place h d)))
-    ∙ within-bits place value d
-  where
-    before : (n : ℕ) → n < FIELDS → n ≢ EDITION → n < EDITION
-    before n l e = omega arith
+    (all-at (λ k. eqb (get_or limits k 0) (2 ^ get_or widths k 0)) 11 place refl h))
 
 -- what registers that fit tell of each field
-pub fits-place : (r : Registers) (place : ℕ) → registers_fit r ≡ true → place < EDITION → field r place < 2 ^ get_or widths place 0
-unfolding registers_fit
-fits-place r place h l =
-    ltb-true (field r place) (2 ^ get_or widths place 0)
-    (within-bits place (field r place) (λ e. omega arith) ∙ all-at (λ p. fits_at p (field r p)) FIELDS place h (omega arith))
+pub fits-place : (r : Registers) (place : ℕ) → registers_fit r ≡ true → place < 11 → field r place < 2 ^ get_or widths place 0
+unfolding registers_fit fits_at
+fits-place r place h l = ltb-true (field r place) (2 ^ get_or widths place 0) (all-at (λ p. fits_at p (field r p)) 11 place h l)
 
-pub fits-edition : (r : Registers) → registers_fit r ≡ true → edition_fits r.edition ≡ true
-unfolding registers_fit fits_at field to_words
-fits-edition r h = all-at (λ p. fits_at p (field r p)) FIELDS EDITION h (lit< tt)
-
-pub words-length : (r : Registers) → length (to_words r) ≡ FIELDS
+pub words-length : (r : Registers) → length (to_words r) ≡ 11
 unfolding to_words
 words-length r = refl
 
@@ -61,15 +41,15 @@ pub from-to : (r : Registers) → from_words (to_words r) ≡ r
 unfolding from_words to_words
 from-to r = refl
 
-pub to-from : (words : List ℕ) → length words ≡ FIELDS → to_words (from_words words) ≡ words
+pub to-from : (words : List ℕ) → length words ≡ 11 → to_words (from_words words) ≡ words
 unfolding from_words to_words
-to-from words e = ext_get_or 0 (tabulate at 0 FIELDS) words (sym e) (λ i l. tab-at at 0 FIELDS i l ∙ ap at (zero-add i))
+to-from words e = ext_get_or 0 (tabulate at 0 11) words (sym e) (λ i l. tab-at at 0 11 i l ∙ ap at (zero-add i))
   where
     at : ℕ → ℕ
     at i = get_or words i 0
 
 -- a field after one is replaced
-pub put_same : (r : Registers) (place value : ℕ) → place < FIELDS → field (put r place value) place ≡ value
+pub put_same : (r : Registers) (place value : ℕ) → place < 11 → field (put r place value) place ≡ value
 unfolding field put
 put_same r place value l =
     rw (to-from (set (to_words r) place value) (length-set (to_words r) place value ∙ words-length r))
@@ -91,13 +71,13 @@ put-again r place value next =
 pub put-fits : (r : Registers) (place value : ℕ) → registers_fit r ≡ true → fits_at place value ≡ true
     → registers_fit (put r place value) ≡ true
 unfolding registers_fit
-put-fits r place value h v = all_from (λ p. fits_at p (field (put r place value) p)) FIELDS each
+put-fits r place value h v = all_from (λ p. fits_at p (field (put r place value) p)) 11 each
   where
-    each : (p : ℕ) → p < FIELDS → fits_at p (field (put r place value) p) ≡ true
+    each : (p : ℕ) → p < 11 → fits_at p (field (put r place value) p) ≡ true
     each p l = elim (ℕ_discrete p place) [ yes e ↦ same e l | no d ↦ other d l ]
       where
-        same : p ≡ place → p < FIELDS → fits_at p (field (put r place value) p) ≡ true
+        same : p ≡ place → p < 11 → fits_at p (field (put r place value) p) ≡ true
         same e k = rw e (ap (fits_at place) (put_same r place value (rw e at k)) ∙ v)
 
-        other : (p ≡ place → ⊥) → p < FIELDS → fits_at p (field (put r place value) p) ≡ true
-        other d k = ap (fits_at p) (put_other r place p value d) ∙ all-at (λ q. fits_at q (field r q)) FIELDS p h k
+        other : (p ≡ place → ⊥) → p < 11 → fits_at p (field (put r place value) p) ≡ true
+        other d k = ap (fits_at p) (put_other r place p value d) ∙ all-at (λ q. fits_at q (field r q)) 11 p h k

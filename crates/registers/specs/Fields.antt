@@ -1,6 +1,5 @@
--- The register fields by their places: numbers 0 to 9 are the registers' own, place 10 is exception value × 2 + write bit, and place 11 the
--- edition.
-use Rattle.std.specs.Prelude.{ℕ, ◌^◌, Bool, cond, ◌&&◌, List, [], ◌∷◌, get_or, set, replicate, eqb, leb, ltb}
+-- The register fields by their places: numbers 0 to 9 are the registers' own, place 10 is exception value × 2 + write bit.
+use Rattle.std.specs.Prelude.{ℕ, ◌^◌, Bool, List, [], ◌∷◌, get_or, set, replicate, ltb}
 use Rattle.runs.specs.Counts.{all}
 use Rattle.registers.specs.declared.Registers.{Registers}
 
@@ -8,7 +7,7 @@ use Rattle.registers.specs.declared.Registers.{Registers}
 unfoldable pub to_words : Registers → List ℕ
 to_words r =
     r.kseg ∷ r.ctrl ∷ r.enable ∷ r.kbase_lo ∷ r.kbase_hi ∷ r.context ∷ r.select ∷ r.tlb_hi ∷ r.tlb_lo ∷ r.test ∷ r.cause
-    ∷ r.edition ∷ []
+    ∷ []
 
 unfoldable pub from_words : List ℕ → Registers
 from_words words = record {
@@ -23,7 +22,6 @@ from_words words = record {
   tlb_lo = get_or words 8 0;
   test = get_or words 9 0;
   cause = get_or words 10 0;
-  edition = get_or words 11 0;
 }
 
 -- the field at a place, and the registers with another value there
@@ -67,34 +65,23 @@ TEST = 9
 abbrev pub CAUSE : ℕ
 CAUSE = 10
 
-abbrev pub EDITION : ℕ
-EDITION = 11
-
 -- how many there are
 abbrev pub FIELDS : ℕ
-FIELDS = 12
+FIELDS = 11
 
--- how many bits each field before the edition has: KSEG 16, CTRL 3, ENABLE 1, KBASE_LO 32, KBASE_HI 32, CONTEXT 6, SELECT 6, TLB_HI 25 (vpn in
+-- how many bits each field has: KSEG 16, CTRL 3, ENABLE 1, KBASE_LO 32, KBASE_HI 32, CONTEXT 6, SELECT 6, TLB_HI 25 (vpn in
 -- bits 24 to 6, page_id in 5 to 0), TLB_LO 23 (entry bits 22 to 0), test mode 1, the cause 5
 unfoldable pub widths : List ℕ
 widths = 16 ∷ 3 ∷ 1 ∷ 32 ∷ 32 ∷ 6 ∷ 6 ∷ 25 ∷ 23 ∷ 1 ∷ 5 ∷ []
 
--- "an edition, 1 or 2"; "edition 0 or above 2 is number 1"
-unfoldable pub edition_fits : (edition : ℕ) → Bool
-edition_fits edition = leb 1 edition && leb edition 2
-
--- a value that the field at a place may have: an edition at the edition's, and within its bits at every other
+-- a value is within the bits of the field at a place
 unfoldable pub fits_at : (place value : ℕ) → Bool
-fits_at place value = cond (eqb place EDITION) (edition_fits value) (ltb value (2 ^ get_or widths place 0))
+fits_at place value = ltb value (2 ^ get_or widths place 0)
 
--- no register field exceeds its bits, and the edition is one
+-- no register field exceeds its bits
 unfoldable pub registers_fit : Registers → Bool
 registers_fit r = all (λ place. fits_at place (field r place)) FIELDS
 
 -- all registers 0
 unfoldable pub zero_registers : Registers
 zero_registers = from_words (replicate FIELDS 0)
-
--- all registers 0 but the edition
-unfoldable pub start_registers : (edition : ℕ) → Registers
-start_registers edition = put zero_registers EDITION edition

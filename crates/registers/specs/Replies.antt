@@ -1,4 +1,4 @@
--- What a call replies: its outcome, the entries that it loaded, the slots that its written mark emptied, and the registers.
+-- What a call replies: its outcome, the entries that it loaded, and the registers.
 use Rattle.std.specs.Prelude.{ℕ}
 use Rattle.registers.specs.declared.Registers.{Registers}
 use Rattle.registers.specs.declared.Outcome.{Outcome}
@@ -12,19 +12,14 @@ refusal_of (Fault value) = 0
 refusal_of (Done value) = 0
 refusal_of (Refused number) = number
 
--- a refusal returns its number, counts 0 and the registers received
+-- a refusal returns its number, count 0 and the registers received
 abbrev pub refused : Registers → (number : ℕ) → Reply
-refused r number = record { outcome = Refused number; loads = 0; emptied = 0; registers = r }
+refused r number = record { outcome = Refused number; loads = 0; registers = r }
 
 -- a call that succeeded, with its value: for a read the value read, for a store the slots emptied, else 0
 abbrev pub done : Registers → (value : ℕ) → Reply
-done r value = record { outcome = Done value; loads = 0; emptied = 0; registers = r }
+done r value = record { outcome = Done value; loads = 0; registers = r }
 
 -- an access that was tried, with its outcome and the entries that it loaded
 abbrev pub answered : Registers → (outcome : Outcome) (loads : ℕ) → Reply
-answered r outcome loads = record { outcome = outcome; loads = loads; emptied = 0; registers = r }
-
--- the same with the slots that a written mark emptied
-abbrev pub marked : Reply → (emptied : ℕ) → Reply
-marked reply emptied =
-    record { outcome = reply.outcome; loads = reply.loads; emptied = emptied; registers = reply.registers }
+answered r outcome loads = record { outcome = outcome; loads = loads; registers = r }

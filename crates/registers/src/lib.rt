@@ -2,11 +2,11 @@
 pub mod refusals;
 
 ghost use Rattle.std.specs.Prelude.{◌≡◌, ◌<◌};
-ghost use Rattle.registers.specs.Fields.{edition_fits, field, fits_at, from_words, put, registers_fit, to_words, zero_registers};
+ghost use Rattle.registers.specs.Fields.{field, fits_at, from_words, put, registers_fit, to_words, zero_registers};
 ghost use Rattle.registers.specs.Refusals.{machine_refusal};
-ghost use Rattle.registers.specs.Replies.{answered, done, marked, refused};
+ghost use Rattle.registers.specs.Replies.{answered, done, refused};
 
-// Numbers 0 to 9 of document 01, then exception value * 2 + write bit, then the edition, 1 or 2.
+// Numbers 0 to 9 of document 01, then exception value * 2 + write bit.
 // TLB_HI and the cause register share vpn and page_id: tlb_hi is vpn * 64 + page_id.
 #[derive(Drop)]
 pub struct Registers {
@@ -21,7 +21,6 @@ pub struct Registers {
     pub tlb_lo: u32,
     pub test: u32,
     pub cause: u32,
-    pub edition: u32,
 }
 
 // One byte address, the mode and the direction; the draw (document 01's word) stands for the random set.
@@ -41,20 +40,13 @@ pub enum Outcome {
     Refused(u32),
 }
 
-// A call's outcome, the entries that it loaded, the slots that its written mark emptied, and the registers that it returns.
+// A call's outcome, the entries that it loaded, and the registers that it returns.
 #[derive(Drop)]
 pub struct Reply {
     pub outcome: Outcome,
     pub loads: u32,
-    pub emptied: u32,
     pub registers: Registers,
 }
-
-// How many fields there are.
-pub const FIELDS: usize = 12;
-
-// The place of the edition.
-const EDITION: u32 = 11;
 
 // The least number that is too large for each field, by how many bits it has.
 const KSEG_LIMIT: u32 = 1 << 16;
@@ -77,7 +69,7 @@ const TEST_LIMIT: u32 = 1 << 1;
 
 const CAUSE_LIMIT: u32 = 1 << 5;
 
-// The limits in the order of the fields' places, up to the edition.
+// The limits in the order of the fields' places.
 const LIMITS: [u64; 11] = [
     KSEG_LIMIT as u64,
     CTRL_LIMIT as u64,
@@ -93,16 +85,16 @@ const LIMITS: [u64; 11] = [
 ];
 
 // The fields in the order of their places.
-pub fn to_words(r: Registers) -> [u32; FIELDS]
+pub fn to_words(r: Registers) -> [u32; 11]
     ensures { result ≡ to_words r }
 {
     [
         r.kseg, r.ctrl, r.enable, r.kbase_lo, r.kbase_hi, r.context, r.select, r.tlb_hi, r.tlb_lo,
-        r.test, r.cause, r.edition,
+        r.test, r.cause,
     ]
 }
 
-pub fn from_words(words: [u32; FIELDS]) -> Registers
+pub fn from_words(words: [u32; 11]) -> Registers
     ensures { result ≡ from_words words }
 {
     Registers {
@@ -117,13 +109,12 @@ pub fn from_words(words: [u32; FIELDS]) -> Registers
         tlb_lo: words[8],
         test: words[9],
         cause: words[10],
-        edition: words[11],
     }
 }
 
 // The field at a place.
 pub fn field(r: Registers, place: u32) -> u32
-    requires { place < 12 }
+    requires { place < 11 }
     ensures { result ≡ field r place }
 {
     let fields = to_words(r);
@@ -132,7 +123,7 @@ pub fn field(r: Registers, place: u32) -> u32
 
 // The registers with another value at a place.
 pub fn put(r: Registers, place: u32, value: u32) -> Registers
-    requires { place < 12 }
+    requires { place < 11 }
     ensures { result ≡ put r place value }
 {
     let mut words = to_words(r);
@@ -140,25 +131,15 @@ pub fn put(r: Registers, place: u32, value: u32) -> Registers
     from_words(words)
 }
 
-// The value is one that the field at a place may have: within its bits, or an edition.
+// The value is within the bits of the field at a place.
 pub fn fits_at(place: u32, value: u32) -> bool
-    requires { place < 12 }
+    requires { place < 11 }
     ensures { result ≡ fits_at place value }
 {
-    if place == EDITION {
-        return edition_fits(value);
-    }
     (value as u64) < LIMITS[place as usize]
 }
 
-// An edition is 1 or 2.
-pub fn edition_fits(edition: u32) -> bool
-    ensures { result ≡ edition_fits edition }
-{
-    (1 <= edition) & (edition <= 2)
-}
-
-// No register field exceeds its bits, and the edition is one. KBASE_LO and KBASE_HI have all 32.
+// No register field exceeds its bits. KBASE_LO and KBASE_HI have all 32.
 pub fn registers_fit(r: Registers) -> bool
     ensures { result ≡ registers_fit r }
 {
@@ -172,13 +153,13 @@ pub fn registers_fit(r: Registers) -> bool
     fits = (r.tlb_lo < TLB_LO_LIMIT) & fits;
     fits = (r.test < TEST_LIMIT) & fits;
     fits = (r.cause < CAUSE_LIMIT) & fits;
-    edition_fits(r.edition) & fits
+    fits
 }
 
 pub fn zero_registers() -> Registers
     ensures { result ≡ zero_registers }
 {
-    from_words([0; FIELDS])
+    from_words([0; 11])
 }
 
 // The first three refusals of a call that takes registers, buffer and tables, by whether each fits; 0 where all do.
@@ -203,7 +184,6 @@ pub fn refused(r: Registers, number: u32) -> Reply
     Reply {
         outcome: Outcome::Refused(number),
         loads: 0,
-        emptied: 0,
         registers: r,
     }
 }
@@ -214,7 +194,6 @@ pub fn done(r: Registers, value: u32) -> Reply
     Reply {
         outcome: Outcome::Done(value),
         loads: 0,
-        emptied: 0,
         registers: r,
     }
 }
@@ -225,21 +204,6 @@ pub fn answered(r: Registers, outcome: Outcome, loads: u32) -> Reply
     Reply {
         outcome,
         loads,
-        emptied: 0,
         registers: r,
-    }
-}
-
-// The reply of an access whose written mark emptied so many slots.
-pub fn marked(reply: Reply, emptied: u32) -> Reply
-    ensures { result ≡ marked reply emptied }
-{
-    let outcome = reply.outcome;
-    let after = reply.registers;
-    Reply {
-        outcome,
-        loads: reply.loads,
-        emptied,
-        registers: after,
     }
 }

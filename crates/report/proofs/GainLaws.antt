@@ -1,23 +1,17 @@
 -- What a call gives to the totals, in the code's words. Assumes nothing.
 use Prim.Native.Nat.{ℕ, ◌+◌, ◌≤◌, ◌<◌}
 use mathlib.Core.Path.{◌≡◌, refl, sym, ap, subst, ◌∙◌}
-use mathlib.Core.Logic.{⊎_elim}
 use mathlib.Core.Bool.{Bool, true, false, cond, not}
 use mathlib.Core.List.{List, [], ◌∷◌}
 use native.Mathlib.Omega.{arith}
 use lib.Dec.{eqb, leb}
 use lib.IntN.{ℤ, pos}
 use borrow.Author.Tests.{leb-true, le-leb, lt-leb, eq-eqb, ne_eqb, not-true, not-false}
-use types.Run.{OneOf}
-use denote.Enum.Declared.{tag_of}
 use Rattle.registers.specs.declared.Outcome.{Outcome}
 use Rattle.registers.specs.declared.Outcome.TheVariants.{At, Fault, Done, Refused}
-use Rattle.registers.specs.contracts.Outcome.{the_type}
 use Rattle.page_table.specs.Faults.{fault_kind}
-use Rattle.mmu.specs.Marks.{has_address}
-use Rattle.report.specs.Totals.{SERVED, LOADS, EMPTIED, CHANGE, AllWithin, BookGives, BookAllGives}
-use Rattle.report.specs.Gains.{gain, has_column, fault_column, fault_gains, access_gains, store_gains}
-use Rattle.report.specs.Marking.{write_gains}
+use Rattle.report.specs.Totals.{SERVED, LOADS, AllWithin, BookGives, BookAllGives}
+use Rattle.report.specs.Gains.{gain, has_column, fault_column, fault_gains, access_gains}
 use Rattle.report.proofs.TotalLaws.{books-none, books-one, books-then, books-stop}
 
 -- the column of a fault's kind
@@ -33,11 +27,11 @@ pub column-broken : (kind : ℕ) → 8 < kind → (kind ≡ 16 → ⊥) → 11 �
 unfolding fault_column
 column-broken kind h e = rw (lt-leb kind 8 h, ne_eqb kind 16 e)
 
-pub column-small : (kind r : ℕ) → r ≡ fault_column kind → r < 12
+pub column-small : (kind r : ℕ) → r ≡ fault_column kind → r < 14
 unfolding fault_column
 column-small kind r e = rw e (go (leb kind 8) refl (eqb kind 16))
   where
-    go : (a : Bool) → leb kind 8 ≡ a → (b : Bool) → cond a (kind + 1) (cond b 10 11) < 12
+    go : (a : Bool) → leb kind 8 ≡ a → (b : Bool) → cond a (kind + 1) (cond b 10 11) < 14
     go true h b = let l = leb-true kind 8 h in omega arith
     go false h true = omega arith
     go false h false = omega arith
@@ -92,39 +86,3 @@ module _ (id loads : ℕ) (outcome : Outcome) (totals : List ℤ) where
   unfolding access_gains
   access-refused number e all =
       subst (λ (o : Outcome). BookAllGives id (access_gains o loads) totals true totals) (sym e) (books-none id totals all)
-
--- an access that marks its leaf where it gets an address
-module _ (id loads emptied : ℕ) (change : ℤ) (outcome : Outcome) (totals : List ℤ) (b : Bool) (mid : List ℤ)
-    (p : BookAllGives id (access_gains outcome loads) totals b mid) where
-  pub write-stop : not b ≡ true → BookAllGives id (write_gains outcome loads emptied change) totals false mid
-  unfolding write_gains
-  write-stop e = books-stop id (access_gains outcome loads) _ totals b mid p (not-true b e)
-
-  write_then : not b ≡ false → (c : Bool) (after : List ℤ)
-      → BookAllGives id (cond (has_address outcome) (store_gains (Done emptied) change) []) mid c after
-      → BookAllGives id (write_gains outcome loads emptied change) totals c after
-  unfolding write_gains
-  write_then e c after q = books-then id (access_gains outcome loads) _ totals b mid p (not-false b e) c after q
-
-  pub write-none : not b ≡ false → OneOf (1 ∷ 2 ∷ 3 ∷ []) (tag_of the_type outcome)
-      → BookAllGives id (write_gains outcome loads emptied change) totals true mid
-  unfolding has_address
-  write-none e k = write_then e true mid (go outcome k)
-    where
-      all : AllWithin mid
-      all = p.in-limit (not-false b e)
-
-      go : (o : Outcome) → OneOf (1 ∷ 2 ∷ 3 ∷ []) (tag_of the_type o)
-          → BookAllGives id (cond (has_address o) (store_gains (Done emptied) change) []) mid true mid
-      go (At address) j = absurd (⊎_elim (λ x. omega arith) (λ l. ⊎_elim (λ x. omega arith) (λ x. omega arith) l) j)
-      go (Fault value) j = books-none id mid all
-      go (Done value) j = books-none id mid all
-      go (Refused number) j = books-none id mid all
-
-  pub write_done : not b ≡ false → (address : ℕ) → outcome ≡ At address → (c : Bool) (after : List ℤ)
-      → BookAllGives id (gain EMPTIED (pos emptied) ∷ gain CHANGE change ∷ []) mid c after
-      → BookAllGives id (write_gains outcome loads emptied change) totals c after
-  unfolding has_address store_gains
-  write_done e address q c after g =
-      write_then e c after
-      (subst (λ (o : Outcome). BookAllGives id (cond (has_address o) (store_gains (Done emptied) change) []) mid c after) (sym q) g)

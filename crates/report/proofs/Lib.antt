@@ -6,4 +6,3 @@ pub mod StartLaws
 pub mod SumLaws
 pub mod LimitLaws
 pub mod FaultKinds
-pub mod MarkLaws

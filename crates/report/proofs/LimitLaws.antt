@@ -2,27 +2,25 @@
 use Prim.Native.Nat.{ℕ, zero, suc, ◌+◌, ◌*◌, ◌≤◌, ◌<◌}
 use mathlib.Core.Path.{◌≡◌, refl, sym, ap, ap₂, ◌∙◌}
 use mathlib.Core.Bool.{Bool, true, false, cond, true≢false}
-use mathlib.Core.List.{List, [], ◌∷◌, ◌++◌}
+use mathlib.Core.List.{List, [], ◌∷◌}
 use native.Mathlib.Omega.{arith}
 use lib.ListN.{length, get_or, set, take, replicate, length-replicate}
 use lib.Dec.{eqb, leb}
-use lib.IntN.{ℤ, pos, nat_abs, ◌+ℤ◌, +ℤ_idl, +ℤ_idr, +ℤ_assoc}
-use borrow.Author.Tests.{eqb-true, leb-true, leb-false, le-leb, lt-leb, eq-eqb, ne_eqb}
+use lib.IntN.{ℤ, pos, nat_abs, ◌+ℤ◌, +ℤ_idr, +ℤ_assoc}
+use borrow.Author.Tests.{eqb-true, leb-true, leb-false, le-leb, lt-leb, eq-eqb}
 use Rattle.registers.specs.declared.Outcome.{Outcome}
 use Rattle.registers.specs.declared.Outcome.TheVariants.{At, Fault, Done, Refused}
 use Rattle.page_table.specs.Faults.{fault_kind}
 use Rattle.store.specs.Machine.{Machine}
-use Rattle.store.specs.Rewrite.{Put}
 use Rattle.trace.specs.Commands.{commands_of}
 use Rattle.trace.specs.Steps.{step_reply, words_after_step, machine_after_step}
 use Rattle.trace.specs.Traces.{start_machine}
 use Rattle.trace.specs.declared.Command.{Command}
 use Rattle.trace.specs.declared.Command.TheVariants.{Serve, Store, Set, Malformed}
 use Rattle.report.specs.Totals.{TOTALS, Gain, Booked, total_at, booked, within, booked_within, booked_all, AllWithin}
-use Rattle.report.specs.Gains.{gain, has_column, fault_column, fault_gains, access_gains, store_gains, leaf_change, marks_made, mark_gains, gains_of}
+use Rattle.report.specs.Gains.{gain, has_column, fault_column, fault_gains, access_gains, store_gains, leaf_change, gains_of}
 use Rattle.report.specs.Tallies.{Tally, booked_by, tally_step, continued, tally_of, file_tally}
 use Rattle.report.specs.Sums.{amount_in, added, sum_of, StaysWithin, FitsWhereWithin, FileFitsWhereWithin}
-use Rattle.report.proofs.GainLaws.{column-small}
 use Rattle.report.proofs.StartLaws.{zero-within}
 use Rattle.report.proofs.TotalLaws.{all_set}
 use Rattle.report.proofs.SumLaws.{Columned, gains-columned, booked-length, booked-adds, record-adds}
@@ -80,69 +78,9 @@ store_apart (Fault value) change = tt
 store_apart (Done emptied) change = (refl, (refl, tt))
 store_apart (Refused number) change = tt
 
-mark-apart : (made : List (List Put)) (emptied : ℕ) (change : ℤ) → Apart (mark_gains made emptied change)
-unfolding mark_gains
-mark-apart [] emptied change = tt
-mark-apart (g ∷ gs) emptied change = store_apart (Done emptied) change
-
--- the columns of an access come before those of a store
-abbrev Low : List Gain → Type 0
-Low [] = Unit {0}
-Low (g ∷ gs) = (g.column < 12) × Low gs
-
-access-low : (o : Outcome) (loads : ℕ) → Low (access_gains o loads)
-unfolding access_gains fault_gains gain
-access-low (At address) loads = (omega arith, (omega arith, tt))
-access-low (Fault value) loads = (omega arith, (omega arith, go (has_column (fault_kind value))))
-  where
-    go : (b : Bool) → Low (cond b (gain (fault_column (fault_kind value)) (pos 1) ∷ []) [])
-    go true = (column-small (fault_kind value) (fault_column (fault_kind value)) refl, tt)
-    go false = tt
-access-low (Done value) loads = tt
-access-low (Refused number) loads = tt
-
-mark-high : (column : ℕ) → column < 12 → (made : List (List Put)) (emptied : ℕ) (change : ℤ)
-    → amount_in column (mark_gains made emptied change) ≡ pos 0
-unfolding mark_gains store_gains amount_in gain
-mark-high column h [] emptied change = refl
-mark-high column h (g ∷ gs) emptied change =
-    rw (ne_eqb 12 column (λ e. omega arith), ne_eqb 13 column (λ e. omega arith))
-
-amount-both : (column : ℕ) (gs hs : List Gain) → amount_in column (gs ++ hs) ≡ amount_in column gs +ℤ amount_in column hs
-unfolding amount_in
-amount-both column [] hs = sym (+ℤ_idl (amount_in column hs))
-amount-both column (g ∷ gs) hs =
-    ap (λ (z : ℤ). cond (eqb g.column column) g.amount (pos 0) +ℤ z) (amount-both column gs hs)
-    ∙ sym (+ℤ_assoc (cond (eqb g.column column) g.amount (pos 0)) (amount_in column gs) (amount_in column hs))
-
-both-apart : (gs hs : List Gain) → Apart gs → Low gs → Apart hs → ((column : ℕ) → column < 12 → amount_in column hs ≡ pos 0)
-    → Apart (gs ++ hs)
-both-apart [] hs p l q high = q
-both-apart (g ∷ gs) hs p l q high = (
-  amount-both g.column gs hs ∙ ap₂ ◌+ℤ◌ p.0 (high g.column l.0),
-  both-apart gs hs p.1 l.1 q high,
-)
-
 gains-apart : (m : Machine) (c : Command) → Apart (gains_of m c)
 unfolding gains_of
-gains-apart m (Serve a) =
-    both-apart (access_gains outcome loads) (mark_gains made emptied change) (access-apart outcome loads) (access-low outcome loads)
-    (mark-apart made emptied change) (λ column h. mark-high column h made emptied change)
-  where
-    outcome : Outcome
-    outcome = (step_reply m (Serve a)).outcome
-
-    loads : ℕ
-    loads = (step_reply m (Serve a)).loads
-
-    made : List (List Put)
-    made = marks_made m a
-
-    emptied : ℕ
-    emptied = (step_reply m (Serve a)).emptied
-
-    change : ℤ
-    change = leaf_change m.words (words_after_step m (Serve a))
+gains-apart m (Serve a) = access-apart (step_reply m (Serve a)).outcome (step_reply m (Serve a)).loads
 gains-apart m (Store index value) =
     store_apart (step_reply m (Store index value)).outcome (leaf_change m.words (words_after_step m (Store index value)))
 gains-apart m (Set number value) = tt
@@ -337,6 +275,5 @@ fits-where-within m totals (c ∷ cs) long all = (
 
 pub file-fits-where-within : FileFitsWhereWithin
 unfolding file_tally
-file-fits-where-within edition lent input =
-    fits-where-within (start_machine edition lent) (replicate TOTALS (pos 0)) (commands_of input) (length-replicate TOTALS (pos 0))
-    (zero-within TOTALS)
+file-fits-where-within lent input =
+    fits-where-within (start_machine lent) (replicate TOTALS (pos 0)) (commands_of input) (length-replicate TOTALS (pos 0)) (zero-within TOTALS)

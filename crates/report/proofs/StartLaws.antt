@@ -19,7 +19,6 @@ use Rattle.slots.specs.Buffer.Buffer.{Wide}
 use Rattle.control.specs.Starting.{StartGives}
 use Rattle.reach.specs.Reach.{leads_to, directory_reached, links_to}
 use Rattle.reach.specs.Index.{table_count, links_from, links_of, presents_of, Indexes}
-use Rattle.trace.specs.Traces.{IsEdition}
 use Rattle.trace.proofs.StartLaws.{start-machine}
 use Rattle.report.specs.Totals.{TOTALS, AllWithin}
 use Rattle.report.specs.Tallies.{ReplayStarts}
@@ -67,12 +66,12 @@ zero-total n i = filled_at (pos 0) n i
 pub zero-within : (n : ℕ) → AllWithin (replicate n (pos 0))
 zero-within n = record { each = λ i. subst (λ (z : ℤ). nat_abs z ≤ 4294967295) (sym (zero-total n i)) (omega arith) }
 
-module _ (edition : ℕ) (lent : List ℕ) (after : Buffer) (reply : Reply) (words links presents : List ℕ) (totals : List ℤ) (n k l s : ℕ) where
-  pub starts : IsEdition edition → length lent ≡ 64 → StartGives edition (Wide lent) after reply → n ≡ 16384 → k ≡ 16 → l ≡ 16 → s ≡ TOTALS
+module _ (lent : List ℕ) (after : Buffer) (reply : Reply) (words links presents : List ℕ) (totals : List ℤ) (n k l s : ℕ) where
+  pub starts : length lent ≡ 64 → StartGives (Wide lent) after reply → n ≡ 16384 → k ≡ 16 → l ≡ 16 → s ≡ TOTALS
       → words ≡ replicate n 0 → links ≡ replicate k 0 → presents ≡ replicate l 0 → totals ≡ replicate s (pos 0)
-      → ReplayStarts edition (Wide lent) reply.registers after words links presents totals
-  starts h e g nq kq lq sq w x p t = record {
-    machine-is = start-machine edition lent after reply words h e g (w ∙ ap zeros nq);
+      → ReplayStarts (Wide lent) reply.registers after words links presents totals
+  starts e g nq kq lq sq w x p t = record {
+    machine-is = start-machine lent after reply words e g (w ∙ ap zeros nq);
     totals-are = t ∙ ap (λ (i : ℕ). replicate i (pos 0)) sq;
     indexed =
         let same : l ≡ k = omega arith in

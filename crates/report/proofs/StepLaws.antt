@@ -1,26 +1,25 @@
 -- A record's step leads where its tally leads. Assumes nothing.
-use Prim.Native.Nat.{ℕ, ◌≤◌, ◌<◌}
+use Prim.Native.Nat.{ℕ, zero, suc, ◌≤◌, ◌<◌}
 use mathlib.Core.Path.{◌≡◌, refl, sym, ap, ap₂, subst, ◌∙◌}
 use mathlib.Core.Logic.{⊎_elim}
 use mathlib.Core.Bool.{Bool, true, false, cond}
 use mathlib.Core.List.{List, [], ◌∷◌}
 use native.Mathlib.Omega.{arith}
 use lib.ListN.{length, get_or, set, length-set, get_or-eq_default}
-use lib.Seq.{set-set, set-get_or}
+use lib.Seq.{ext_get_or, get_or-set_same, get_or-set_other}
 use lib.Dec.{eqb}
 use lib.IntN.{ℤ, pos, ◌-ℤ◌}
-use borrow.Author.Tests.{eqb-true}
+use borrow.Author.Tests.{eqb-true, eqb-false}
 use types.Run.{OneOf}
 use denote.Enum.Declared.{tag_of}
 use Rattle.registers.specs.Refusals.{by_refusal}
 use Rattle.registers.specs.Replies.{refused, done}
 use Rattle.registers.specs.declared.Access.{Access}
 use Rattle.registers.specs.declared.Outcome.{Outcome}
-use Rattle.registers.specs.declared.Outcome.TheVariants.{Done}
+use Rattle.registers.specs.declared.Outcome.TheVariants.{At, Fault, Done, Refused}
 use Rattle.registers.specs.declared.Reply.{Reply}
 use Rattle.registers.specs.contracts.Outcome.{the_type}
 use Rattle.page_table.specs.Stretches.{length_fits, tables_fit}
-use Rattle.page_table.specs.declared.Found.{Found}
 use Rattle.slots.specs.Buffer.{Buffer}
 use Rattle.store.specs.Machine.{Machine}
 use Rattle.store.specs.Rewrite.{Put, written}
@@ -29,16 +28,14 @@ use Rattle.store.specs.TableStore.{store_refusal, stored_words, store_reply, wor
 use Rattle.store.proofs.StoreLaws.{store-accepted}
 use Rattle.reach.specs.Leaves.{leaf_count}
 use Rattle.reach.specs.Index.{Indexes}
-use Rattle.trace.specs.Steps.{step_reply, words_after_step, machine_after_step, StepGives}
+use Rattle.trace.specs.Steps.{step_reply, buffer_after_step, words_after_step, machine_after_step, StepGives}
 use Rattle.trace.specs.declared.Command.{Command}
 use Rattle.trace.specs.declared.Command.TheVariants.{Serve, Store, Set, Malformed}
-use Rattle.report.specs.Totals.{Gain, EMPTIED, CHANGE, booked_all, AllWithin, BookAllGives}
-use Rattle.report.specs.Gains.{gain, access_gains, store_gains, leaf_change, marks_made, gains_of}
-use Rattle.report.specs.Marking.{MarksLeaf, write_gains}
+use Rattle.report.specs.Totals.{Gain, Booked, EMPTIED, CHANGE, booked_all, AllWithin, BookAllGives}
+use Rattle.report.specs.Gains.{gain, access_gains, store_gains, leaf_change, gains_of}
 use Rattle.report.specs.Tallies.{Tally, booked_by, tally_step, CountGives, AccessCountGives, PlainCountGives}
 use Rattle.report.specs.declared.Counted.{Counted}
 use Rattle.report.proofs.TotalLaws.{books-none}
-use Rattle.report.proofs.MarkLaws.{unmarked-words, unmarked-gives, write-gives}
 
 -- what a step leaves is the machine after it
 pub step-machine : (m : Machine) (c : Command) (reply : Reply) (buffer : Buffer) (words : List ℕ) → StepGives m c reply buffer words
@@ -50,58 +47,21 @@ step-machine m c reply buffer words s = λ j. record {
   words = s.words_are j;
 }
 
--- a step of which what it gives was booked
-pub step_counts : (m : Machine) (totals : List ℤ) (c : Command) (reply : Reply) (buffer : Buffer) (words : List ℕ) (gains : List Gain)
-    (b : Bool) (after : List ℤ) → StepGives m c reply buffer words → gains ≡ gains_of m c
-    → BookAllGives m.registers.context gains totals b after
-    → AccessCountGives (tally_step m totals c) (record { registers = reply.registers; fits = b }) buffer words after
-unfolding tally_step booked_by
-step_counts m totals c reply buffer words gains b after s e p = record {
-  machine-is = step-machine m c reply buffer words s;
-  totals-are = p.totals-are ∙ ap (λ (gs : List Gain). (booked_all m.registers.context gs totals).totals) e;
-  fits-is = p.fits-is ∙ ap (λ (gs : List Gain). (booked_all m.registers.context gs totals).fits) e;
+-- an access
+pub access-counts : (m : Machine) (totals : List ℤ) (a : Access) (reply : Reply) (buffer : Buffer) (words : List ℕ) (b : Bool)
+    (after : List ℤ) → StepGives m (Serve a) reply buffer words
+    → BookAllGives m.registers.context (access_gains reply.outcome reply.loads) totals b after
+    → AccessCountGives (tally_step m totals (Serve a)) (record { registers = reply.registers; fits = b }) buffer words after
+unfolding tally_step booked_by gains_of
+access-counts m totals a reply buffer words b after s p = record {
+  machine-is = step-machine m (Serve a) reply buffer words s;
+  totals-are =
+      p.totals-are
+      ∙ ap (λ (r : Reply). (booked_all m.registers.context (access_gains r.outcome r.loads) totals).totals) s.reply-is;
+  fits-is =
+      p.fits-is ∙ ap (λ (r : Reply). (booked_all m.registers.context (access_gains r.outcome r.loads) totals).fits) s.reply-is;
   in-limit = p.in-limit;
 }
-
--- with the index of the tables
-pub with-index : (t : Tally) (counted : Counted) (buffer : Buffer) (words links presents : List ℕ) (after : List ℤ)
-    → AccessCountGives t counted buffer words after → Indexes words links presents
-    → CountGives t counted buffer words links presents after
-with-index t counted buffer words links presents after g x = record {
-  machine-is = g.machine-is;
-  totals-are = g.totals-are;
-  fits-is = g.fits-is;
-  indexed = x;
-  in-limit = g.in-limit;
-}
-
--- an access
-module _ (m : Machine) (totals : List ℤ) (a : Access) (reply : Reply) (buffer : Buffer) (words : List ℕ)
-    (s : StepGives m (Serve a) reply buffer words) (b : Bool) (after : List ℤ) where
-  -- that makes no mark
-  pub access-counts : marks_made m a ≡ []
-      → BookAllGives m.registers.context (access_gains reply.outcome reply.loads) totals b after
-      → AccessCountGives (tally_step m totals (Serve a)) (record { registers = reply.registers; fits = b }) buffer words after
-  unfolding gains_of
-  access-counts none p =
-      step_counts m totals (Serve a) reply buffer words (access_gains reply.outcome reply.loads) b after s
-      (ap (λ (r : Reply). access_gains r.outcome r.loads) s.reply-is ∙ unmarked-gives m a none _ _ _ _) p
-
-  -- that marks a leaf where it gets an address
-  pub write-counts : (f : Found) → MarksLeaf m a f → (links presents : List ℕ) → Indexes words links presents → (before now : ℕ)
-      → before ≡ leaf_count m.words → now ≡ leaf_count words
-      → BookAllGives m.registers.context (write_gains reply.outcome reply.loads reply.emptied (pos now -ℤ pos before)) totals b
-      after
-      → CountGives (tally_step m totals (Serve a)) (record { registers = reply.registers; fits = b }) buffer words links presents after
-  unfolding gains_of step_reply leaf_change
-  write-counts f k links presents x before now eb en p =
-      let change : pos now -ℤ pos before ≡ leaf_change m.words (words_after_step m (Serve a)) =
-      ap₂ (λ (x y : ℕ). pos x -ℤ pos y) (en ∙ ap leaf_count s.words_are) eb in
-      let gains : write_gains reply.outcome reply.loads reply.emptied (pos now -ℤ pos before) ≡ gains_of m (Serve a) =
-      ap₂ (λ (r : Reply) (z : ℤ). write_gains r.outcome r.loads r.emptied z) s.reply-is change
-      ∙ write-gives m a f k _ _ _ in
-      with-index _ _ buffer words links presents after
-      (step_counts m totals (Serve a) reply buffer words _ b after s gains p) x
 
 -- a store that is done was accepted, and one that is not was refused
 module _ (m : Machine) (p : Put) where
@@ -131,7 +91,17 @@ module _ (m : Machine) (p : Put) where
 
 -- the old word put back
 restored : (words : List ℕ) (i v : ℕ) → set (set words i v) i (get_or words i 0) ≡ words
-restored words i v = set-set words i v (get_or words i 0) ∙ set-get_or words i 0
+restored words i v =
+    ext_get_or 0 (set (set words i v) i (get_or words i 0)) words (length-set (set words i v) i (get_or words i 0) ∙ length-set words i v)
+    (λ k l. go k (let e = length-set (set words i v) i (get_or words i 0) in let f = length-set words i v in omega arith) (eqb k i) refl)
+  where
+    go : (k : ℕ) → k < length words → (b : Bool) → eqb k i ≡ b → get_or (set (set words i v) i (get_or words i 0)) k 0 ≡ get_or words k 0
+    go k l true e =
+        let q : k ≡ i = eqb-true k i e in
+        subst (λ (x : ℕ). get_or (set (set words i v) i (get_or words i 0)) x 0 ≡ get_or words x 0) (sym q)
+        (get_or-set_same (set words i v) i (get_or words i 0) 0 (rw (length-set words i v) (subst (λ (x : ℕ). x < length words) q l)))
+    go k l false e =
+        get_or-set_other (set words i v) i k (get_or words i 0) 0 (eqb-false k i e) ∙ get_or-set_other words i k v 0 (eqb-false k i e)
 
 module _ (m : Machine) (index value : ℕ) (reply : Reply) (buffer : Buffer) (words : List ℕ)
     (s : StepGives m (Store index value) reply buffer words) (totals : List ℤ) (fit : tables_fit m.words ≡ true) where
@@ -167,14 +137,19 @@ module _ (m : Machine) (index value : ℕ) (reply : Reply) (buffer : Buffer) (wo
         → CountGives (tally_step m totals (Store index value)) (record { registers = reply.registers; fits = b }) buffer words links
         presents
         totals-after
-    unfolding gains_of store_gains leaf_change
+    unfolding tally_step booked_by gains_of store_gains leaf_change
     store-counts links presents x before after eb ea b totals-after q =
         let gains : (gain EMPTIED (pos n) ∷ gain CHANGE (pos after -ℤ pos before) ∷ []) ≡ gains_of m (Store index value) =
         ap₂ (λ (x y : ℕ). gain EMPTIED (pos n) ∷ gain CHANGE (pos x -ℤ pos y) ∷ []) (ea ∙ ap leaf_count s.words_are) eb
         ∙ ap (λ (o : Outcome). store_gains o (leaf_change m.words (words_after_step m (Store index value))))
         (sym d ∙ ap (λ (r : Reply). r.outcome) s.reply-is) in
-        with-index _ _ buffer words links presents totals-after
-        (step_counts m totals (Store index value) reply buffer words _ b totals-after s gains q) x
+        record {
+          machine-is = step-machine m (Store index value) reply buffer words s;
+          totals-are = q.totals-are ∙ ap (λ (gs : List Gain). (booked_all m.registers.context gs totals).totals) gains;
+          fits-is = q.fits-is ∙ ap (λ (gs : List Gain). (booked_all m.registers.context gs totals).fits) gains;
+          indexed = x;
+          in-limit = q.in-limit;
+        }
 
   -- it was not
   pub store_nothing : (links presents : List ℕ) → Indexes m.words links presents → AllWithin totals
@@ -182,30 +157,37 @@ module _ (m : Machine) (index value : ℕ) (reply : Reply) (buffer : Buffer) (wo
       → CountGives (tally_step m totals (Store index value)) (record { registers = reply.registers; fits = true }) buffer words links
       presents
       totals
-  unfolding gains_of step_reply words_after_step
+  unfolding tally_step booked_by gains_of step_reply words_after_step
   store_nothing links presents x all k =
       let o = other-words m (record { index = index; value = value })
       (subst (λ (r : Reply). OneOf (0 ∷ 1 ∷ 3 ∷ []) (tag_of the_type r.outcome)) s.reply-is k) in
       let none = o.1 (leaf_change m.words (words_after_step m (Store index value))) in
-      with-index _ _ buffer words links presents totals
-      (step_counts m totals (Store index value) reply buffer words [] true totals s (sym none)
-      (books-none m.registers.context totals all))
-      (subst (λ (ws : List ℕ). Indexes ws links presents) (sym (s.words_are ∙ o.0)) x)
-
--- an access that makes no mark leaves the tables, and so their index
-pub access-indexed : (m : Machine) (totals : List ℤ) (links presents : List ℕ) (counted : Counted) (buffer : Buffer) (words : List ℕ)
-    (a : Access) (after : List ℤ) → Indexes m.words links presents → marks_made m a ≡ []
-    → AccessCountGives (tally_step m totals (Serve a)) counted buffer words after
-    → CountGives (tally_step m totals (Serve a)) counted buffer words links presents after
-unfolding tally_step machine_after_step words_after_step
-access-indexed m totals links presents counted buffer words a after x none s =
-    with-index _ counted buffer words links presents after s
-    (subst (λ (ws : List ℕ). Indexes ws links presents)
-    (sym (ap (λ (q : Machine). q.words) s.machine-is ∙ unmarked-words m a none)) x)
+      let q = books-none m.registers.context totals all in
+      record {
+        machine-is = step-machine m (Store index value) reply buffer words s;
+        totals-are = q.totals-are ∙ ap (λ (gs : List Gain). (booked_all m.registers.context gs totals).totals) (sym none);
+        fits-is = q.fits-is ∙ ap (λ (gs : List Gain). (booked_all m.registers.context gs totals).fits) (sym none);
+        indexed = subst (λ (ws : List ℕ). Indexes ws links presents) (sym (s.words_are ∙ o.0)) x;
+        in-limit = λ e. all;
+      }
 
 -- a record by its command
 module _ (m : Machine) (c : Command) (totals : List ℤ) (links presents : List ℕ) (x : Indexes m.words links presents)
     (counted : Counted) (buffer : Buffer) (words : List ℕ) where
+  pub step-access : (a : Access) (after : List ℤ) → c ≡ Serve a → AccessCountGives (tally_step m totals (Serve a)) counted buffer words after
+      → CountGives (tally_step m totals c) counted buffer words links presents after
+  unfolding tally_step machine_after_step words_after_step
+  step-access a after e s =
+      subst (λ (d : Command). CountGives (tally_step m totals d) counted buffer words links presents after) (sym e)
+      (record {
+        machine-is = s.machine-is;
+        totals-are = s.totals-are;
+        fits-is = s.fits-is;
+        indexed =
+            subst (λ (ws : List ℕ). Indexes ws links presents) (sym (ap (λ (q : Machine). q.words) s.machine-is)) x;
+        in-limit = s.in-limit;
+      })
+
   plain : (gains_of m c ≡ []) → words_after_step m c ≡ m.words → AllWithin totals → PlainCountGives m c counted buffer words
       → CountGives (tally_step m totals c) counted buffer words links presents totals
   unfolding tally_step booked_by machine_after_step
@@ -230,11 +212,12 @@ module _ (m : Machine) (c : Command) (totals : List ℤ) (links presents : List 
   unfolding gains_of words_after_step
   step-malformed e = plain (ap (gains_of m) e) (ap (words_after_step m) e)
 
-pub step-as : (m : Machine) (c d : Command) (totals : List ℤ) (counted : Counted) (buffer : Buffer) (words links presents : List ℕ)
-    (after : List ℤ) → c ≡ d → CountGives (tally_step m totals d) counted buffer words links presents after
+pub step-store : (m : Machine) (c : Command) (totals : List ℤ) (index value : ℕ) (counted : Counted) (buffer : Buffer)
+    (words links presents : List ℕ) (after : List ℤ) → c ≡ Store index value
+    → CountGives (tally_step m totals (Store index value)) counted buffer words links presents after
     → CountGives (tally_step m totals c) counted buffer words links presents after
-step-as m c d totals counted buffer words links presents after e s =
-    subst (λ (x : Command). CountGives (tally_step m totals x) counted buffer words links presents after) (sym e) s
+step-store m c totals index value counted buffer words links presents after e s =
+    subst (λ (d : Command). CountGives (tally_step m totals d) counted buffer words links presents after) (sym e) s
 
 pub plain-gives : (m : Machine) (c : Command) (reply : Reply) (buffer : Buffer) (words : List ℕ) → StepGives m c reply buffer words
     → PlainCountGives m c (record { registers = reply.registers; fits = true }) buffer words

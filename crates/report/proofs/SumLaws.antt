@@ -2,7 +2,7 @@
 use Prim.Native.Nat.{ℕ, ◌+◌, ◌*◌, ◌≤◌, ◌<◌}
 use mathlib.Core.Path.{◌≡◌, refl, sym, ap, ap₂, subst, ◌∙◌}
 use mathlib.Core.Bool.{Bool, true, false, cond, true≢false}
-use mathlib.Core.List.{List, [], ◌∷◌, ◌++◌}
+use mathlib.Core.List.{List, [], ◌∷◌}
 use native.Mathlib.Omega.{arith}
 use lib.ListN.{length, get_or, set, replicate, length-set, length-replicate}
 use lib.Seq.{get_or-set_same, get_or-set_other}
@@ -13,14 +13,13 @@ use Rattle.registers.specs.declared.Outcome.{Outcome}
 use Rattle.registers.specs.declared.Outcome.TheVariants.{At, Fault, Done, Refused}
 use Rattle.page_table.specs.Faults.{fault_kind}
 use Rattle.store.specs.Machine.{Machine}
-use Rattle.store.specs.Rewrite.{Put}
 use Rattle.trace.specs.Commands.{commands_of}
 use Rattle.trace.specs.Steps.{step_reply, words_after_step, machine_after_step}
 use Rattle.trace.specs.Traces.{start_machine}
 use Rattle.trace.specs.declared.Command.{Command}
 use Rattle.trace.specs.declared.Command.TheVariants.{Serve, Store, Set, Malformed}
 use Rattle.report.specs.Totals.{TOTALS, Gain, Booked, total_at, booked, booked_within, booked_all}
-use Rattle.report.specs.Gains.{gain, has_column, fault_column, fault_gains, access_gains, store_gains, leaf_change, marks_made, mark_gains, gains_of}
+use Rattle.report.specs.Gains.{gain, has_column, fault_column, fault_gains, access_gains, store_gains, leaf_change, gains_of}
 use Rattle.report.specs.Tallies.{Tally, booked_by, tally_step, continued, tally_of, file_tally}
 use Rattle.report.specs.Sums.{amount_in, added, sum_of, TotalsAreSums, FileTotalsAreSums}
 use Rattle.report.proofs.GainLaws.{column-small}
@@ -36,7 +35,7 @@ unfolding fault_gains gain
 fault-columned kind = go (has_column kind)
   where
     go : (b : Bool) → Columned (cond b (gain (fault_column kind) (pos 1) ∷ []) [])
-    go true = (omega (arith, column-small kind (fault_column kind) refl), tt)
+    go true = (column-small kind (fault_column kind) refl, tt)
     go false = tt
 
 access-columned : (o : Outcome) (loads : ℕ) → Columned (access_gains o loads)
@@ -53,22 +52,9 @@ store-columned (Fault value) change = tt
 store-columned (Done emptied) change = (omega arith, (omega arith, tt))
 store-columned (Refused number) change = tt
 
-mark-columned : (made : List (List Put)) (emptied : ℕ) (change : ℤ) → Columned (mark_gains made emptied change)
-unfolding mark_gains
-mark-columned [] emptied change = tt
-mark-columned (g ∷ gs) emptied change = store-columned (Done emptied) change
-
-both-columned : (gs hs : List Gain) → Columned gs → Columned hs → Columned (gs ++ hs)
-both-columned [] hs p q = q
-both-columned (g ∷ gs) hs p q = (p.0, both-columned gs hs p.1 q)
-
 pub gains-columned : (m : Machine) (c : Command) → Columned (gains_of m c)
 unfolding gains_of
-gains-columned m (Serve a) =
-    both-columned (access_gains (step_reply m (Serve a)).outcome (step_reply m (Serve a)).loads)
-    (mark_gains (marks_made m a) (step_reply m (Serve a)).emptied (leaf_change m.words (words_after_step m (Serve a))))
-    (access-columned (step_reply m (Serve a)).outcome (step_reply m (Serve a)).loads)
-    (mark-columned (marks_made m a) (step_reply m (Serve a)).emptied (leaf_change m.words (words_after_step m (Serve a))))
+gains-columned m (Serve a) = access-columned (step_reply m (Serve a)).outcome (step_reply m (Serve a)).loads
 gains-columned m (Store index value) =
     store-columned (step_reply m (Store index value)).outcome (leaf_change m.words (words_after_step m (Store index value)))
 gains-columned m (Set number value) = tt
@@ -228,8 +214,7 @@ totals-are-sums m totals (c ∷ cs) id column inside low long e =
 
 pub file-totals-are-sums : FileTotalsAreSums
 unfolding file_tally
-file-totals-are-sums edition lent input id column inside low e =
-    totals-are-sums (start_machine edition lent) (replicate TOTALS (pos 0)) (commands_of input) id column inside low
-    (length-replicate TOTALS (pos 0)) e
-    ∙ ap (λ (z : ℤ). z +ℤ sum_of (start_machine edition lent) (commands_of input) id column) (zero-total TOTALS (total_at id column))
-    ∙ +ℤ_idl (sum_of (start_machine edition lent) (commands_of input) id column)
+file-totals-are-sums lent input id column inside low e =
+    totals-are-sums (start_machine lent) (replicate TOTALS (pos 0)) (commands_of input) id column inside low (length-replicate TOTALS (pos 0)) e
+    ∙ ap (λ (z : ℤ). z +ℤ sum_of (start_machine lent) (commands_of input) id column) (zero-total TOTALS (total_at id column))
+    ∙ +ℤ_idl (sum_of (start_machine lent) (commands_of input) id column)

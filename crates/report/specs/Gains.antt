@@ -1,13 +1,9 @@
 -- What a record's call gives to the totals of the identification under which it is made.
-use Rattle.std.specs.Prelude.{ℕ, ◌+◌, Bool, cond, ◌&&◌, ◌||◌, List, [], ◌∷◌, ◌++◌, eqb, leb, ℤ, pos, ◌-ℤ◌}
-use Rattle.registers.specs.Refusals.{by_refusal}
-use Rattle.registers.specs.declared.Access.{Access}
+use Rattle.std.specs.Prelude.{ℕ, ◌+◌, Bool, cond, ◌&&◌, ◌||◌, List, [], ◌∷◌, eqb, leb, ℤ, pos, ◌-ℤ◌}
 use Rattle.registers.specs.declared.Outcome.{Outcome}
 use Rattle.registers.specs.declared.Outcome.TheVariants.{At, Fault, Done, Refused}
 use Rattle.page_table.specs.Faults.{fault_kind}
 use Rattle.store.specs.Machine.{Machine}
-use Rattle.store.specs.Rewrite.{Put}
-use Rattle.mmu.specs.ServedAccess.{served_refusal, marks_on}
 use Rattle.reach.specs.Leaves.{leaf_count}
 use Rattle.trace.specs.Steps.{step_reply, words_after_step}
 use Rattle.trace.specs.declared.Command.{Command}
@@ -48,21 +44,9 @@ store_gains (Refused number) change = []
 unfoldable pub leaf_change : (before after : List ℕ) → ℤ
 leaf_change before after = pos (leaf_count after) -ℤ pos (leaf_count before)
 
--- the stores of the mark that an access makes; a refused access makes none
-unfoldable pub marks_made : Machine → Access → List (List Put)
-marks_made m a = by_refusal (served_refusal m a) (marks_on m a) []
-
--- "the report counts a mark as a store": what the mark gives, if one is made, is what a store gives that emptied as many slots
-unfoldable pub mark_gains : (made : List (List Put)) (emptied : ℕ) (change : ℤ) → List Gain
-mark_gains [] emptied change = []
-mark_gains (g ∷ gs) emptied change = store_gains (Done emptied) change
-
--- What a record gives: its accepted access, followed by what its mark gives; or its accepted store. A setting, a malformed record and a
--- refused call give nothing.
+-- what a record gives: its accepted access or store; a setting, a malformed record and a refused call give nothing
 unfoldable pub gains_of : Machine → Command → List Gain
-gains_of m (Serve a) =
-    access_gains (step_reply m (Serve a)).outcome (step_reply m (Serve a)).loads
-    ++ mark_gains (marks_made m a) (step_reply m (Serve a)).emptied (leaf_change m.words (words_after_step m (Serve a)))
+gains_of m (Serve a) = access_gains (step_reply m (Serve a)).outcome (step_reply m (Serve a)).loads
 gains_of m (Store index value) =
     store_gains (step_reply m (Store index value)).outcome (leaf_change m.words (words_after_step m (Store index value)))
 gains_of m (Set number value) = []

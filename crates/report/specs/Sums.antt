@@ -31,13 +31,11 @@ TotalsAreSums = (m : Machine) (totals : List ℤ) (cs : List Command) (id column
     get_or (tally_of m totals cs).totals (total_at id column) (pos 0)
     ≡ get_or totals (total_at id column) (pos 0) +ℤ sum_of m cs id column
 
--- "Totals equal those defined from the accepted records": a file's totals are the sums over its records, from the start state of an edition
--- and zero tables.
+-- "Totals equal those defined from the accepted records": a file's totals are the sums over its records, from the start state and zero
+-- tables.
 abbrev pub FileTotalsAreSums : Type 0
-FileTotalsAreSums = (edition : ℕ) (lent : Buffer) (input : List ℕ) (id column : ℕ) → id ≤ 62 → column < 14 →
-    (file_tally edition lent input).fits ≡ true →
-    get_or (file_tally edition lent input).totals (total_at id column) (pos 0)
-    ≡ sum_of (start_machine edition lent) (commands_of input) id column
+FileTotalsAreSums = (lent : Buffer) (input : List ℕ) (id column : ℕ) → id ≤ 62 → column < 14 → (file_tally lent input).fits ≡ true →
+    get_or (file_tally lent input).totals (total_at id column) (pos 0) ≡ sum_of (start_machine lent) (commands_of input) id column
 
 -- after each number of the records, 0 among them, every total is within the limit
 pub record StaysWithin (m : Machine) (totals : List ℤ) (cs : List Command) : Type 0 where
@@ -51,6 +49,6 @@ FitsWhereWithin = (m : Machine) (totals : List ℤ) (cs : List Command) → leng
 
 -- the same of a file: it is not stopped exactly where every sum over its first records is within the limit
 abbrev pub FileFitsWhereWithin : Type 0
-FileFitsWhereWithin = (edition : ℕ) (lent : Buffer) (input : List ℕ) →
-    ((file_tally edition lent input).fits ≡ true → StaysWithin (start_machine edition lent) (replicate TOTALS (pos 0)) (commands_of input))
-    × (StaysWithin (start_machine edition lent) (replicate TOTALS (pos 0)) (commands_of input) → (file_tally edition lent input).fits ≡ true)
+FileFitsWhereWithin = (lent : Buffer) (input : List ℕ) →
+    ((file_tally lent input).fits ≡ true → StaysWithin (start_machine lent) (replicate TOTALS (pos 0)) (commands_of input))
+    × (StaysWithin (start_machine lent) (replicate TOTALS (pos 0)) (commands_of input) → (file_tally lent input).fits ≡ true)

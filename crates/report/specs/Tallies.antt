@@ -1,5 +1,5 @@
 -- The totals of a file: its records are replayed one after the other, and each books its gains under the context of that moment.
-use Rattle.std.specs.Prelude.{ℕ, ◌*◌, ◌≡◌, Bool, true, cond, List, [], ◌∷◌, ◌++◌, length, replicate, ℤ, pos}
+use Rattle.std.specs.Prelude.{ℕ, ◌*◌, ◌≡◌, Bool, true, false, cond, List, [], ◌∷◌, ◌++◌, length, replicate, ℤ, pos}
 use Rattle.registers.specs.declared.Registers.{Registers}
 use Rattle.slots.specs.Buffer.{Buffer}
 use Rattle.store.specs.Machine.{Machine}
@@ -36,13 +36,13 @@ tally_of m totals [] = record { machine = m; totals = totals; fits = true }
 tally_of m totals (c ∷ cs) = continued (tally_step m totals c) (tally_of (machine_after_step m c) (booked_by m totals c).totals cs)
 
 -- "each from the start state and zero tables": the tally of a file's bytes
-unfoldable pub file_tally : (edition : ℕ) (lent : Buffer) (input : List ℕ) → Tally
-file_tally edition lent input = tally_of (start_machine edition lent) (replicate TOTALS (pos 0)) (commands_of input)
+unfoldable pub file_tally : (lent : Buffer) (input : List ℕ) → Tally
+file_tally lent input = tally_of (start_machine lent) (replicate TOTALS (pos 0)) (commands_of input)
 
--- What the start of a replay promises, whatever was lent: the start state of an edition, zero tables with their index, and totals that are all 0.
-pub record ReplayStarts (edition : ℕ) (lent : Buffer) (registers : Registers) (buffer : Buffer) (words links presents : List ℕ)
-    (totals : List ℤ) : Type 0 where
-  pub machine-is : record { registers = registers; buffer = buffer; words = words } ≡ start_machine edition lent
+-- What the start of a replay promises, whatever was lent: the start state, zero tables with their index, and totals that are all 0.
+pub record ReplayStarts (lent : Buffer) (registers : Registers) (buffer : Buffer) (words links presents : List ℕ) (totals : List ℤ)
+    : Type 0 where
+  pub machine-is : record { registers = registers; buffer = buffer; words = words } ≡ start_machine lent
   pub totals-are : totals ≡ replicate TOTALS (pos 0)
   pub indexed : Indexes words links presents
   pub in-limit : AllWithin totals
@@ -65,7 +65,7 @@ pub record CountGives (t : Tally) (counted : Counted) (buffer-after : Buffer) (w
   pub indexed : Indexes words-after links-after presents-after
   pub in-limit : counted.fits ≡ true → AllWithin totals-after
 
--- the same of an access that makes no mark, which leaves the tables
+-- the same of an access, which leaves the tables
 pub record AccessCountGives (t : Tally) (counted : Counted) (buffer-after : Buffer) (words-after : List ℕ) (totals-after : List ℤ)
     : Type 0 where
   pub machine-is : record { registers = counted.registers; buffer = buffer-after; words = words-after } ≡ t.machine

@@ -1,7 +1,6 @@
 // What a call gives to the totals: an accepted served access, or an accepted store.
 ghost use Rattle.std.specs.Prelude.{[], ◌∷◌, ◌≡◌, ◌≤◌, length, pos, ◌-ℤ◌};
 ghost use Rattle.report.specs.Gains.{access_gains, fault_column, gain, has_column};
-ghost use Rattle.report.specs.Marking.{write_gains};
 ghost use Rattle.report.specs.Totals.{AllWithin, BookAllGives, CHANGE, EMPTIED, LOADS, SERVED, TOTALS};
 
 use crate::totals::book;
@@ -97,7 +96,7 @@ pub(crate) fn book_access(totals: &mut [i64], id: u32, outcome: Outcome, loads: 
     }
 }
 
-// Books what an accepted store gives, or a mark: the slots that it emptied, and leaf words after minus leaf words before.
+// Books what an accepted store gives: the slots that it emptied, and leaf words after minus leaf words before.
 pub(crate) fn book_store(totals: &mut [i64], id: u32, emptied: u32, before: u32, after: u32) -> bool
     requires { (length totals.old ≡ TOTALS) × AllWithin totals.old }
     ensures { BookAllGives id (gain EMPTIED (pos emptied) ∷ gain CHANGE (pos after -ℤ pos before) ∷ [])
@@ -109,27 +108,4 @@ pub(crate) fn book_store(totals: &mut [i64], id: u32, emptied: u32, before: u32,
     }
     let change = difference(after, before);
     book(totals, id, CHANGE, change)
-}
-
-// Books what an access gives that marks its leaf where it gets an address.
-pub(crate) fn book_write(
-    totals: &mut [i64],
-    id: u32,
-    outcome: Outcome,
-    loads: u32,
-    emptied: u32,
-    before: u32,
-    after: u32,
-) -> bool
-    requires { (length totals.old ≡ TOTALS) × AllWithin totals.old }
-    ensures { BookAllGives id (write_gains outcome loads emptied (pos after -ℤ pos before)) totals.old result
-        totals.new }
-{
-    if !book_access(totals, id, outcome, loads) {
-        return false;
-    }
-    let Outcome::At(_) = outcome else {
-        return true;
-    };
-    book_store(totals, id, emptied, before, after)
 }

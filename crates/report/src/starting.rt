@@ -1,7 +1,7 @@
 // The start of a file's replay.
 ghost use Rattle.std.specs.Prelude.{◌≡◌, pos, length, replicate};
 ghost use Rattle.slots.specs.Buffer.{Buffer};
-ghost use Rattle.trace.specs.Traces.{IsEdition, WORDS};
+ghost use Rattle.trace.specs.Traces.{WORDS};
 ghost use Rattle.report.specs.Tallies.{ReplayStarts};
 ghost use Rattle.report.specs.Totals.{TOTALS};
 
@@ -31,21 +31,20 @@ fn clear_totals(totals: &mut [i64])
     }
 }
 
-// The start state of an edition, zero tables with their index, and totals that are all 0.
+// The start state, zero tables with their index, and totals that are all 0.
 pub fn start(
     buffer: &mut [u64],
     words: &mut [u32],
     links: &mut [u32],
     presents: &mut [u32],
     totals: &mut [i64],
-    edition: u32,
 ) -> Registers
-    requires { IsEdition edition × (length buffer.old ≡ 64) × (length words.old ≡ WORDS) × (length links.old ≡ 16) × (length presents.old ≡ 16)
+    requires { (length buffer.old ≡ 64) × (length words.old ≡ WORDS) × (length links.old ≡ 16) × (length presents.old ≡ 16)
         × (length totals.old ≡ TOTALS) }
-    ensures { ReplayStarts edition (Buffer.Wide buffer.old) result (Buffer.Wide buffer.new)
+    ensures { ReplayStarts (Buffer.Wide buffer.old) result (Buffer.Wide buffer.new)
         words.new links.new presents.new totals.new }
 {
-    let reply = control::start(buffer, edition);
+    let reply = control::start(buffer);
     clear(words);
     clear(links);
     clear(presents);

@@ -1,17 +1,13 @@
 // A record's step, with what it gives to the totals of the identification under which it is made.
-ghost use Rattle.std.specs.Prelude.{[], ◌≡◌, get_or, length};
+ghost use Rattle.std.specs.Prelude.{◌≡◌, get_or, length};
 ghost use Rattle.slots.specs.Buffer.{Buffer};
 ghost use Rattle.trace.specs.declared.Command.{Command as Asked};
-ghost use Rattle.report.specs.Gains.{marks_made};
-ghost use Rattle.report.specs.Marking.{MarksLeaf};
 ghost use Rattle.report.specs.Ready.{Ready};
 ghost use Rattle.report.specs.Tallies.{AccessCountGives, CountGives, PlainCountGives, tally_step};
 ghost use Rattle.report.specs.Totals.{AllWithin, TOTALS};
 
-use crate::gains::{book_access, book_store, book_write};
-use crate::marking::leaf_to_mark;
-use crate::{Counted, ToMark};
-use page_table::Found;
+use crate::Counted;
+use crate::gains::{book_access, book_store};
 use registers::{Access, Outcome, Registers};
 use trace::Command;
 
@@ -25,16 +21,15 @@ fn word_or_zero(words: &[u32], index: u32) -> u32
     words[index as usize]
 }
 
-// An access that makes no mark: the call, and what it gives.
-fn count_unmarked(
+// An access: the call, and what it gives.
+fn count_access(
     r: Registers,
     buffer: &mut [u64],
     words: &mut [u32],
     totals: &mut [i64],
     access: Access,
 ) -> Counted
-    requires { (length totals.old ≡ TOTALS) × AllWithin totals.old
-        × (marks_made (record { registers = r; buffer = Buffer.Wide buffer.old; words = words.old }) access ≡ []) }
+    requires { (length totals.old ≡ TOTALS) × AllWithin totals.old }
     ensures { AccessCountGives
         (tally_step (record { registers = r; buffer = Buffer.Wide buffer.old; words = words.old })
         totals.old (Asked.Serve access))
@@ -46,67 +41,6 @@ fn count_unmarked(
     let fits = book_access(totals, context, outcome, reply.loads);
     let registers = reply.registers;
     Counted { registers, fits }
-}
-
-// An access that marks this leaf where it gets an address: the call, and what it gives. The index follows the tables.
-fn count_write(
-    r: Registers,
-    buffer: &mut [u64],
-    words: &mut [u32],
-    links: &mut [u32],
-    presents: &mut [u32],
-    totals: &mut [i64],
-    access: Access,
-    leaf: Found,
-) -> Counted
-    requires { Ready words.old links.old presents.old totals.old
-        × MarksLeaf (record { registers = r; buffer = Buffer.Wide buffer.old; words = words.old }) access leaf }
-    ensures { CountGives
-        (tally_step (record { registers = r; buffer = Buffer.Wide buffer.old; words = words.old })
-        totals.old (Asked.Serve access))
-        result (Buffer.Wide buffer.new) words.new links.new presents.new totals.new }
-{
-    let context = r.context;
-    let before = reach::leaf_count(words, links, presents);
-    let reply = trace::step(r, buffer, words, Command::Serve(access));
-    reach::stored(words, links, presents, leaf.index, leaf.word);
-    let after = reach::leaf_count(words, links, presents);
-    let outcome = reply.outcome;
-    let fits = book_write(
-        totals,
-        context,
-        outcome,
-        reply.loads,
-        reply.emptied,
-        before,
-        after,
-    );
-    let registers = reply.registers;
-    Counted { registers, fits }
-}
-
-// An access. The page of one that may make a mark is walked before the call: a mark changes no word but its leaf's.
-fn count_access(
-    r: Registers,
-    buffer: &mut [u64],
-    words: &mut [u32],
-    links: &mut [u32],
-    presents: &mut [u32],
-    totals: &mut [i64],
-    access: Access,
-) -> Counted
-    requires { Ready words.old links.old presents.old totals.old }
-    ensures { CountGives
-        (tally_step (record { registers = r; buffer = Buffer.Wide buffer.old; words = words.old })
-        totals.old (Asked.Serve access))
-        result (Buffer.Wide buffer.new) words.new links.new presents.new totals.new }
-{
-    match leaf_to_mark(r, words, access) {
-        ToMark::None => count_unmarked(r, buffer, words, totals, access),
-        ToMark::Leaf(leaf) => {
-            count_write(r, buffer, words, links, presents, totals, access, leaf)
-        }
-    }
 }
 
 // A store: the call, and what it gives. The index follows the tables.
@@ -175,9 +109,7 @@ pub(crate) fn count_step(
         result (Buffer.Wide buffer.new) words.new links.new presents.new totals.new }
 {
     match command {
-        Command::Serve(access) => {
-            count_access(r, buffer, words, links, presents, totals, access)
-        }
+        Command::Serve(access) => count_access(r, buffer, words, totals, access),
         Command::Store(index, value) => {
             count_store(r, buffer, words, links, presents, totals, index, value)
         }

@@ -50,11 +50,11 @@ ready-again words after links presents totals totals' t registers fits buffer r 
     record { columns = e ∙ r.columns; in-limit = g.in-limit f; fit = ap length_fits w ∙ r.fit; indexed = g.indexed }
 
 -- a replay at its start
-pub ready-first : (edition : ℕ) (lent : Buffer) (registers : Registers) (buffer : Buffer) (words links presents : List ℕ) (totals : List ℤ)
-    → length words ≡ 16384 → length totals ≡ TOTALS → ReplayStarts edition lent registers buffer words links presents totals
+pub ready-first : (lent : Buffer) (registers : Registers) (buffer : Buffer) (words links presents : List ℕ) (totals : List ℤ)
+    → length words ≡ 16384 → length totals ≡ TOTALS → ReplayStarts lent registers buffer words links presents totals
     → Ready words links presents totals
 unfolding tables_fit length_fits
-ready-first edition lent registers buffer words links presents totals w t s =
+ready-first lent registers buffer words links presents totals w t s =
     record { columns = t; in-limit = s.in-limit; fit = ap length_fits w; indexed = s.indexed }
 
 -- where it goes on, every total is within the limit, the block is full, and there is a next number
@@ -193,12 +193,12 @@ from-registers r b buffer words totals p buffer₁ words₁ links₁ presents₁
     totals₁ input₁) e g
 
 -- a file from the start
-pub from_start : (edition : ℕ) (lent : Buffer) (registers : Registers) (buffer : Buffer) (words links presents : List ℕ) (totals : List ℤ)
-    → ReplayStarts edition lent registers buffer words links presents totals
+pub from_start : (lent : Buffer) (registers : Registers) (buffer : Buffer) (words links presents : List ℕ) (totals : List ℤ)
+    → ReplayStarts lent registers buffer words links presents totals
     → (p : Replayed) (buffer₁ : Buffer) (words₁ links₁ presents₁ : List ℕ) (totals₁ : List ℤ) (input₁ : List ℕ)
     → ReplayGives (record { registers = registers; buffer = buffer; words = words }) totals p buffer₁ words₁ links₁ presents₁ totals₁ input₁
-    → ReplayGives (start_machine edition lent) (replicate TOTALS (pos 0)) p buffer₁ words₁ links₁ presents₁ totals₁ input₁
-from_start edition lent registers buffer words links presents totals s p buffer₁ words₁ links₁ presents₁ totals₁ input₁ g =
+    → ReplayGives (start_machine lent) (replicate TOTALS (pos 0)) p buffer₁ words₁ links₁ presents₁ totals₁ input₁
+from_start lent registers buffer words links presents totals s p buffer₁ words₁ links₁ presents₁ totals₁ input₁ g =
     subst (λ (m : Machine). ReplayGives m (replicate TOTALS (pos 0)) p buffer₁ words₁ links₁ presents₁ totals₁ input₁) s.machine-is
     (subst (λ (t : List ℤ). ReplayGives (record { registers = registers; buffer = buffer; words = words }) t p buffer₁ words₁ links₁
     presents₁

@@ -25,13 +25,13 @@ use Rattle.reporting.specs.declared.Filed.{Filed}
 use Rattle.reporting.specs.declared.Replayed.{Replayed}
 
 -- a file that was replayed, and the lines of its ending
-pub file-gives : (edition : ℕ) (lent : List ℕ) (number n : ℕ) (buffer : Buffer) (words links presents : List ℕ) (totals : List ℤ)
+pub file-gives : (lent : List ℕ) (number n : ℕ) (buffer : Buffer) (words links presents : List ℕ) (totals : List ℤ)
     (input out after : List ℕ) (p : Replayed) (ending : Ending) → length lent ≡ 64
-    → ReplayGives (start_machine edition (Wide lent)) (replicate TOTALS (pos 0)) p buffer words links presents totals input
+    → ReplayGives (start_machine (Wide lent)) (replicate TOTALS (pos 0)) p buffer words links presents totals input
     → ending ≡ ending_of p.last.fits p.last.failed → TextPut out 0 (ending_text number totals ending) n after
-    → FileGives edition number (record { replayed = p; length = n }) words input after
+    → FileGives number (record { replayed = p; length = n }) words input after
 unfolding buffer_fits
-file-gives edition lent number n buffer words links presents totals input out after p ending l g e t = record {
+file-gives lent number n buffer words links presents totals input out after p ending l g e t = record {
   lent = Wide lent;
   lent_fits = eq-eqb (length lent) 64 l;
   buffer = buffer;
@@ -44,15 +44,15 @@ file-gives edition lent number n buffer words links presents totals input out af
       (subst (λ (x : Ending). TextPut out 0 (ending_text number totals x) n after) e t);
 }
 
-pub opened : (edition number : ℕ) (f : Filed) (words input after : List ℕ) → FileGives edition number f words input after
-    → FilePut edition number f words input after
+pub opened : (number : ℕ) (f : Filed) (words input after : List ℕ) → FileGives number f words input after
+    → FilePut number f words input after
 unfolding FilePut
-opened edition number f words input after g = inr g
+opened number f words input after g = inr g
 
-pub not_opened : (edition number n : ℕ) (f : Filed) (words input out after : List ℕ) → (f.replayed.blocks ≡ 0) × (f.length ≡ n)
-    → TextPut out 0 (unread_text number) n after → FilePut edition number f words input after
+pub not_opened : (number n : ℕ) (f : Filed) (words input out after : List ℕ) → (f.replayed.blocks ≡ 0) × (f.length ≡ n)
+    → TextPut out 0 (unread_text number) n after → FilePut number f words input after
 unfolding FilePut
-not_opened edition number n f words input out after e t =
+not_opened number n f words input out after e t =
     inl (record {
       no_block = e.0;
       lines = subst (λ (k : ℕ). Begins after k (unread_text number)) (sym e.1) (put-begins out (unread_text number) n after t);
@@ -67,30 +67,30 @@ none_left true next count h e = ltb-false next count h
 none_left false next count h e = absurd (clash e refl)
 
 -- one file more
-pub next-file : (edition count next : ℕ) (f : Filed) (words input out : List ℕ) → 1 ≤ next → next < count
-    → FilePut edition (next - 1) f words input out → LastFile edition count (next + 1) f words input out
-next-file edition count next f words input out l k p =
+pub next-file : (count next : ℕ) (f : Filed) (words input out : List ℕ) → 1 ≤ next → next < count
+    → FilePut (next - 1) f words input out → LastFile count (next + 1) f words input out
+next-file count next f words input out l k p =
     record { file = next - 1; next-is = omega (arith, l); named = omega (arith, k); put = p }
 
 -- what holds while the loop goes: no file yet, or the last one
-pub Going : (edition count next : ℕ) (f : Filed) (written : Bool) (words input out : List ℕ) → Type 0
-Going edition count next f written words input out =
-    ((next ≡ 1) × (f.length ≡ 0) × (written ≡ true)) ⊎ LastFile edition count next f words input out
+pub Going : (count next : ℕ) (f : Filed) (written : Bool) (words input out : List ℕ) → Type 0
+Going count next f written words input out =
+    ((next ≡ 1) × (f.length ≡ 0) × (written ≡ true)) ⊎ LastFile count next f words input out
 
-pub first-file : (edition count : ℕ) (f : Filed) (words input out : List ℕ) → (f.replayed.blocks ≡ 0) × (f.length ≡ 0)
-    → Going edition count 1 f true words input out
+pub first-file : (count : ℕ) (f : Filed) (words input out : List ℕ) → (f.replayed.blocks ≡ 0) × (f.length ≡ 0)
+    → Going count 1 f true words input out
 unfolding Going
-first-file edition count f words input out e = inl (refl, e.1, refl)
+first-file count f words input out e = inl (refl, e.1, refl)
 
-pub more-files : (edition count next : ℕ) (f : Filed) (written : Bool) (words input out : List ℕ) → 1 ≤ next → next < count
-    → FilePut edition (next - 1) f words input out → Going edition count (next + 1) f written words input out
+pub more-files : (count next : ℕ) (f : Filed) (written : Bool) (words input out : List ℕ) → 1 ≤ next → next < count
+    → FilePut (next - 1) f words input out → Going count (next + 1) f written words input out
 unfolding Going
-more-files edition count next f written words input out l k p = inr (next-file edition count next f words input out l k p)
+more-files count next f written words input out l k p = inr (next-file count next f words input out l k p)
 
-pub reported : (edition count next : ℕ) (f : Filed) (written : Bool) (words input out : List ℕ) → Going edition count next f written words input out
-    → written && ltb next count ≡ false → ReportGives edition count (record { next = next; file = f; written = written }) words input out
+pub reported : (count next : ℕ) (f : Filed) (written : Bool) (words input out : List ℕ) → Going count next f written words input out
+    → written && ltb next count ≡ false → ReportGives count (record { next = next; file = f; written = written }) words input out
 unfolding Going
-reported edition count next f written words input out (inl h) e = record {
+reported count next f written words input out (inl h) e = record {
   last-file =
       inl (record {
         none_named = let k = none_left written next count e h.2 in let q = h.0 in omega (arith, k, q);
@@ -99,4 +99,4 @@ reported edition count next f written words input out (inl h) e = record {
       });
   none_left = none_left written next count e;
 }
-reported edition count next f written words input out (inr h) e = record { last-file = inr h; none_left = none_left written next count e }
+reported count next f written words input out (inr h) e = record { last-file = inr h; none_left = none_left written next count e }

@@ -19,16 +19,16 @@ ROOM = 20480
 abbrev pub ReportFits : (words input out : List ℕ) → Type 0
 ReportFits words input out = (length words ≡ WORDS) × (length input ≡ BYTES) × (length out ≡ ROOM)
 
--- "each from the start state and zero tables", in an edition: an open file was replayed so, whatever was lent, and the output begins with the lines of
+-- "each from the start state and zero tables": an open file was replayed so, whatever was lent, and the output begins with the lines of
 -- how it ended
-pub record FileGives (edition number : ℕ) (f : Filed) (words-after input-after out-after : List ℕ) : Type 0 where
+pub record FileGives (number : ℕ) (f : Filed) (words-after input-after out-after : List ℕ) : Type 0 where
   pub lent : Buffer
   pub lent_fits : buffer_fits lent ≡ true
   pub buffer : Buffer
   pub links : List ℕ
   pub presents : List ℕ
   pub totals : List ℤ
-  pub replay : ReplayGives (start_machine edition lent) (replicate TOTALS (pos 0)) f.replayed buffer words-after links presents totals input-after
+  pub replay : ReplayGives (start_machine lent) (replicate TOTALS (pos 0)) f.replayed buffer words-after links presents totals input-after
   pub lines : Begins out-after f.length (ending_text number totals (ending_of f.replayed.last.fits f.replayed.last.failed))
 
 -- one that can't be opened is unread, and has no block
@@ -36,9 +36,9 @@ pub record FileUnopened (number : ℕ) (f : Filed) (out-after : List ℕ) : Type
   pub no_block : f.replayed.blocks ≡ 0
   pub lines : Begins out-after f.length (unread_text number)
 
-unfoldable pub FilePut : (edition number : ℕ) (f : Filed) (words-after input-after out-after : List ℕ) → Type 0
-FilePut edition number f words-after input-after out-after =
-    FileUnopened number f out-after ⊎ FileGives edition number f words-after input-after out-after
+unfoldable pub FilePut : (number : ℕ) (f : Filed) (words-after input-after out-after : List ℕ) → Type 0
+FilePut number f words-after input-after out-after =
+    FileUnopened number f out-after ⊎ FileGives number f words-after input-after out-after
 
 -- no argument names a file: nothing is put
 pub record NoFile (count : ℕ) (r : Reported) : Type 0 where
@@ -47,16 +47,16 @@ pub record NoFile (count : ℕ) (r : Reported) : Type 0 where
   pub no_lines : r.file.length ≡ 0
 
 -- the file of the argument before the next one: argument 1 names file 0
-pub record LastFile (edition count next : ℕ) (f : Filed) (words-after input-after out-after : List ℕ) : Type 0 where
+pub record LastFile (count next : ℕ) (f : Filed) (words-after input-after out-after : List ℕ) : Type 0 where
   pub file : ℕ
   pub next-is : next ≡ file + 2
   pub named : next ≤ count
-  pub put : FilePut edition file f words-after input-after out-after
+  pub put : FilePut file f words-after input-after out-after
 
--- What the report of an edition over so many arguments promises: the output begins with the lines of the last file, if there is one; and where these
+-- What the report over so many arguments promises: the output begins with the lines of the last file, if there is one; and where these
 -- could be written, no argument is left. Which file an argument names, that each one before the last had its lines too, and that the lines
 -- reached standard output, only a run shows. Of the path, of the output behind the lines and of the run behind the bytes that were read
 -- nothing is promised.
-pub record ReportGives (edition count : ℕ) (r : Reported) (words-after input-after out-after : List ℕ) : Type 0 where
-  pub last-file : NoFile count r ⊎ LastFile edition count r.next r.file words-after input-after out-after
+pub record ReportGives (count : ℕ) (r : Reported) (words-after input-after out-after : List ℕ) : Type 0 where
+  pub last-file : NoFile count r ⊎ LastFile count r.next r.file words-after input-after out-after
   pub none_left : r.written ≡ true → count ≤ r.next

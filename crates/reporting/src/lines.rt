@@ -1,7 +1,6 @@
 // The lines of a file.
 ghost use Rattle.std.specs.Prelude.{◌≡◌, ◌≤◌, length};
 ghost use Rattle.line.specs.Text.{TextPut};
-ghost use Rattle.trace.specs.Traces.{IsEdition};
 ghost use Rattle.reporting.specs.Blocks.{RunsFit};
 ghost use Rattle.reporting.specs.Endings.{ending_of, ending_text};
 ghost use Rattle.reporting.specs.Reports.{FileGives, FilePut, ROOM, ReportFits};
@@ -49,14 +48,12 @@ fn put_counted(
     totals: &mut [i64],
     input: &mut [u8],
     out: &mut [u8],
-    edition: u32,
 ) -> Filed
-    requires { RunsFit buffer.old words.old links.old presents.old totals.old input.old × (length out.old ≡ ROOM)
-        × IsEdition edition }
-    ensures lines { FileGives edition number result words.new input.new out.new }
+    requires { RunsFit buffer.old words.old links.old presents.old totals.old input.old × (length out.old ≡ ROOM) }
+    ensures lines { FileGives number result words.new input.new out.new }
     ensures room { result.length ≤ length out.new }
 {
-    let replayed = count_file(fd, buffer, words, links, presents, totals, input, edition);
+    let replayed = count_file(fd, buffer, words, links, presents, totals, input);
     let last = replayed.last;
     let ending = ending_of(last.fits, last.failed);
     let length = put_ending(out, number, totals, ending);
@@ -64,16 +61,9 @@ fn put_counted(
 }
 
 // The same, with a buffer, an index of the tables and totals of the file's own.
-fn put_open(
-    fd: i32,
-    number: u64,
-    words: &mut [u32],
-    input: &mut [u8],
-    out: &mut [u8],
-    edition: u32,
-) -> Filed
-    requires { ReportFits words.old input.old out.old × IsEdition edition }
-    ensures lines { FileGives edition number result words.new input.new out.new }
+fn put_open(fd: i32, number: u64, words: &mut [u32], input: &mut [u8], out: &mut [u8]) -> Filed
+    requires { ReportFits words.old input.old out.old }
+    ensures lines { FileGives number result words.new input.new out.new }
     ensures room { result.length ≤ length out.new }
 {
     let mut buffer = [0u64; 64];
@@ -90,7 +80,6 @@ fn put_open(
         &mut totals,
         input,
         out,
-        edition,
     )
 }
 
@@ -117,10 +106,9 @@ pub(crate) fn put_lines(
     words: &mut [u32],
     input: &mut [u8],
     out: &mut [u8],
-    edition: u32,
 ) -> Filed
-    requires { ReportFits words.old input.old out.old × IsEdition edition }
-    ensures lines { FilePut edition number result words.new input.new out.new }
+    requires { ReportFits words.old input.old out.old }
+    ensures lines { FilePut number result words.new input.new out.new }
     ensures room { result.length ≤ length out.new }
 {
     let fd = os::open_read(path);
@@ -128,7 +116,7 @@ pub(crate) fn put_lines(
         let n = rows::put_unread(out, number);
         return unopened(n);
     }
-    let file = put_open(fd, number, words, input, out, edition);
+    let file = put_open(fd, number, words, input, out);
     libc::close(fd);
     file
 }

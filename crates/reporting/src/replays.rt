@@ -1,7 +1,7 @@
 // A file's replay, block by block.
 ghost use Rattle.std.specs.Prelude.{◌≡◌, pos, length, replicate};
 ghost use Rattle.slots.specs.Buffer.{Buffer};
-ghost use Rattle.trace.specs.Traces.{IsEdition, start_machine};
+ghost use Rattle.trace.specs.Traces.{start_machine};
 ghost use Rattle.report.specs.Ready.{Ready};
 ghost use Rattle.report.specs.Totals.{TOTALS};
 ghost use Rattle.reporting.specs.Blocks.{BYTES, RunsFit};
@@ -65,7 +65,7 @@ fn replay(
     Replayed { last, blocks }
 }
 
-// Counts a file from the start state of an edition, over zero tables.
+// Counts a file from the start state, over zero tables.
 pub(crate) fn count_file(
     fd: i32,
     buffer: &mut [u64],
@@ -74,13 +74,12 @@ pub(crate) fn count_file(
     presents: &mut [u32],
     totals: &mut [i64],
     input: &mut [u8],
-    edition: u32,
 ) -> Replayed
-    requires { RunsFit buffer.old words.old links.old presents.old totals.old input.old × IsEdition edition }
-    ensures { ReplayGives (start_machine edition (Buffer.Wide buffer.old)) (replicate TOTALS (pos 0)) result
+    requires { RunsFit buffer.old words.old links.old presents.old totals.old input.old }
+    ensures { ReplayGives (start_machine (Buffer.Wide buffer.old)) (replicate TOTALS (pos 0)) result
         (Buffer.Wide buffer.new) words.new links.new presents.new totals.new
         input.new }
 {
-    let registers = report::start(buffer, words, links, presents, totals, edition);
+    let registers = report::start(buffer, words, links, presents, totals);
     replay(fd, registers, buffer, words, links, presents, totals, input)
 }

@@ -1,6 +1,5 @@
 // The files that the arguments name, one after the other.
 ghost use Rattle.std.specs.Prelude.{◌-◌, ◌≤◌};
-ghost use Rattle.trace.specs.Traces.{IsEdition};
 ghost use Rattle.reporting.specs.Reports.{FilePut, ReportFits, ReportGives};
 
 use crate::lines::{put_lines, unopened};
@@ -23,35 +22,33 @@ fn write_lines(
     words: &mut [u32],
     input: &mut [u8],
     out: &mut [u8],
-    edition: u32,
 ) -> Lines
-    requires { (1 ≤ argument) × ReportFits words.old input.old out.old × IsEdition edition }
-    ensures { FilePut edition (argument - 1) result.file words.new input.new out.new }
+    requires { (1 ≤ argument) × ReportFits words.old input.old out.old }
+    ensures { FilePut (argument - 1) result.file words.new input.new out.new }
 {
     let n = os::arg(argument, path);
-    let file = put_lines(&path[..n], argument as u64 - 1, words, input, out, edition);
+    let file = put_lines(&path[..n], argument as u64 - 1, words, input, out);
     let written = io::write_all(1, &out[..file.length]);
     Lines { file, written }
 }
 
-// Writes the lines of the files that so many arguments name, the first of which is the program's own name. It
-// replays them in an edition, and stops where lines could not be written.
+// Writes the lines of the files that so many arguments name, the first of which is the program's own name. It stops where lines could not
+// be written.
 pub fn run(
     count: usize,
     path: &mut [u8],
     words: &mut [u32],
     input: &mut [u8],
     out: &mut [u8],
-    edition: u32,
 ) -> Reported
-    requires { ReportFits words.old input.old out.old × IsEdition edition }
-    ensures { ReportGives edition count result words.new input.new out.new }
+    requires { ReportFits words.old input.old out.old }
+    ensures { ReportGives count result words.new input.new out.new }
 {
     let mut next: usize = 1;
     let mut file = unopened(0);
     let mut written = true;
     while written & (next < count) {
-        let lines = write_lines(next, path, words, input, out, edition);
+        let lines = write_lines(next, path, words, input, out);
         file = lines.file;
         written = lines.written;
         next += 1;

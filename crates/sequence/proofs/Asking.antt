@@ -6,10 +6,10 @@ use mathlib.Core.Bool.{Bool, true, false}
 use mathlib.Core.List.{List, [], ◌∷◌}
 use Rattle.runs.proofs.Bools.{clash}
 use Rattle.page_table.specs.Stretches.{tables_fit}
-use Rattle.slots.specs.Buffer.{Buffer}
+use Rattle.slots.specs.Buffer.{Buffer, buffer_fits}
 use Rattle.store.specs.Machine.{Machine}
 use Rattle.store.proofs.StoreLaws.{store-gives}
-use Rattle.control.specs.Starting.{start_refusal, start_reply, started_buffer}
+use Rattle.control.specs.Starting.{start_reply, started_buffer}
 use Rattle.control.proofs.CallLaws.{start_gives, setting-gives}
 use Rattle.mmu.proofs.ServedLaws.{served-gives}
 use Rattle.sequence.specs.Calls.{Call, Event, accepted, handed, left_by, Promise, Promised}
@@ -34,7 +34,7 @@ event-call m (GuardedSetting given number value) = refl
 -- every call keeps its promise
 event-promised : (m : Machine) (c : Call) → Promised m (event_of m c)
 unfolding Promised Promise event_of
-event-promised m (ServedAccess given a) = served-gives given a _ _ _ refl refl refl
+event-promised m (ServedAccess given a) = (served-gives given a _ _ refl refl, refl)
 event-promised m (TableStore given p) = store-gives given p _ _ _ refl refl refl
 event-promised m (GuardedSetting given number value) = (setting-gives given number value _ refl, refl, refl)
 
@@ -74,10 +74,8 @@ asked s (Now q ∷ qs) h = (handed-one s.machine (call_on s.machine q) (λ _. ha
 asked s (Stray c ∷ qs) h = (handed-one s.machine c (λ ok. absurd (clash ok h.0)), asked _ qs h.1)
 
 -- so demand 3 speaks of every list of requests, from every start
-pub of-every-list : (edition : ℕ) (lent : Buffer) (words : List ℕ) → start_refusal edition lent ≡ 0 → tables_fit words ≡ true
-    → (qs : List Ask) → StraysRefused qs
-    → let s = begun edition (start_reply edition lent) (started_buffer edition lent) words in HoldsThroughout s Start (events_of s qs)
+pub of-every-list : (lent : Buffer) (words : List ℕ) → buffer_fits lent ≡ true → tables_fit words ≡ true → (qs : List Ask) → StraysRefused qs
+    → let s = begun (start_reply lent) (started_buffer lent) words in HoldsThroughout s Start (events_of s qs)
 unfolding Demand3
-of-every-list edition lent words ok wf qs h =
-    demand3 edition lent (started_buffer edition lent) (start_reply edition lent) words ok (start_gives edition lent _ _ refl refl) wf _
-    (asked _ qs h)
+of-every-list lent words bf wf qs h =
+    demand3 lent (started_buffer lent) (start_reply lent) words bf (start_gives lent _ _ refl refl) wf _ (asked _ qs h)

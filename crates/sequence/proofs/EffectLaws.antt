@@ -8,24 +8,24 @@ use lib.ListN.{set, length-set}
 use borrow.Author.Tests.{leb-true}
 use Rattle.registers.specs.Fields.{registers_fit}
 use Rattle.registers.specs.declared.Access.{Access}
-use Rattle.registers.specs.declared.Outcome.{Outcome}
 use Rattle.page_table.specs.Stretches.{tables_fit}
+use Rattle.page_table.specs.declared.Walk.{Walk}
+use Rattle.page_table.specs.declared.Walk.TheVariants.{Leaf, Absent, Broken}
 use Rattle.slots.specs.Buffer.{Buffer, buffer_fits}
+use Rattle.tlb.proofs.Loads.{load_fits}
 use Rattle.access.specs.Translation.{is_set}
 use Rattle.store.specs.Machine.{Machine}
-use Rattle.store.specs.Rewrite.{Put, written, rewritten, buffer_after}
+use Rattle.store.specs.Rewrite.{Put, written}
 use Rattle.store.specs.Sweep.{swept}
 use Rattle.store.proofs.Sweeps.{swept-fits}
 use Rattle.control.specs.Setting.{switch_fits}
-use Rattle.mmu.specs.Marks.{marks}
-use Rattle.mmu.specs.ServedAccess.{walk_for, access_buffer, marks_on}
-use Rattle.mmu.proofs.MarkLaws.{access-fits}
+use Rattle.mmu.specs.ServedAccess.{missed, first_try, walk_for, buffer_loaded, buffer_after_miss, access_buffer}
 use Rattle.sequence.specs.Reader.{Settings, settings_of, with_guarded, reader_walk}
 use Rattle.sequence.specs.Account.{Slots, slots_swept}
-use Rattle.sequence.specs.Effects.{Effect, swept_all, reader_marks, reader_does, slots_do}
+use Rattle.sequence.specs.Effects.{Effect, rewritten, swept_all, reader_does, slots_do}
 use Rattle.sequence.specs.Effects.Effect.{Keep, Serve, Rewrite, Set}
 use Rattle.sequence.proofs.Invariant.{Inv, sweep-keeps}
-use Rattle.sequence.proofs.Serving.{reader_of, access-inv, access-answer}
+use Rattle.sequence.proofs.Serving.{reader_of, access-inv}
 use Rattle.sequence.proofs.Following.{SameSlots, access-same, sweep-same}
 
 -- what every machine of a sequence is
@@ -43,6 +43,11 @@ off x e = rw e
 
 -- ---- where an effect leads
 
+-- the buffer after all groups, each with one sweep
+unfoldable pub buffer_after : List (List Put) → (words : List ℕ) → Buffer → Buffer
+buffer_after [] words b = b
+buffer_after (g ∷ gs) words b = buffer_after gs (written g words) (swept (written g words) b)
+
 -- a machine with these settings and runs; the registers that are not guarded are free but for fitting, and for test mode
 pub record Led (settings : Settings) (buffer : Buffer) (words : List ℕ) (m : Machine) : Type 0 where
   pub settings-are : settings_of m.registers ≡ settings
@@ -53,8 +58,7 @@ pub record Led (settings : Settings) (buffer : Buffer) (words : List ℕ) (m : M
 
 unfoldable pub Leads : Machine → Effect → Machine → Type 0
 Leads m Keep m' = Led (settings_of m.registers) m.buffer m.words m'
-Leads m (Serve a) m' =
-    Led (settings_of m.registers) (buffer_after (marks_on m a) m.words (access_buffer m a)) (rewritten (marks_on m a) m.words) m'
+Leads m (Serve a) m' = Led (settings_of m.registers) (access_buffer m a) m.words m'
 Leads m (Rewrite gs) m' = Led (settings_of m.registers) (buffer_after gs m.words m.buffer) (rewritten gs m.words) m'
 Leads m (Set number value) m' = Led (with_guarded (settings_of m.registers) number value) m.buffer m.words m'
 
@@ -91,6 +95,18 @@ module _ (settings : Settings) (b : Buffer) (words : List ℕ) (m' : Machine) (l
   led-slots : (slots : Slots) → SameSlots b slots → SameSlots m'.buffer slots
   led-slots slots same = subst (λ (x : Buffer). SameSlots x slots) (sym l.buffer-is) same
 
+-- an access leaves a buffer that fits
+pub access-fits : (m : Machine) (a : Access) → buffer_fits (access_buffer m a) ≡ buffer_fits m.buffer
+unfolding access_buffer buffer_after_miss buffer_loaded
+access-fits m a = go (missed (first_try m a)) (walk_for m a)
+  where
+    go : (t : Bool) (x : Walk) → buffer_fits (cond t (buffer_after_miss x (first_try m a).registers m.buffer a) m.buffer)
+        ≡ buffer_fits m.buffer
+    go true (Leaf f) = load_fits m.buffer _ _ _ _
+    go true (Absent s) = refl
+    go true (Broken s) = refl
+    go false x = refl
+
 -- groups of words
 written-fit : (ps : List Put) (words : List ℕ) → tables_fit (written ps words) ≡ tables_fit words
 unfolding written tables_fit
@@ -102,7 +118,7 @@ unfolding rewritten
 rewritten-fit [] words = refl
 rewritten-fit (g ∷ gs) words = rewritten-fit gs (written g words) ∙ written-fit g words
 
-pub after-fits : (gs : List (List Put)) (words : List ℕ) (b : Buffer) → buffer_fits (buffer_after gs words b) ≡ buffer_fits b
+after-fits : (gs : List (List Put)) (words : List ℕ) (b : Buffer) → buffer_fits (buffer_after gs words b) ≡ buffer_fits b
 unfolding buffer_after
 after-fits [] words b = refl
 after-fits (g ∷ gs) words b = after-fits gs (written g words) (swept (written g words) b) ∙ swept-fits (written g words) b
@@ -133,13 +149,6 @@ switch-le s number value l h = go (eqb number 5) h
     go true q = leb-true value 62 q
     go false q = l
 
--- the unit marks what the reader marks: their answers are one
-pub marks-same : (m : Machine) (s : Sound m) (a : Access) → a.draw < 4 → marks_on m a ≡ reader_marks (reader_of m) a
-unfolding marks_on reader_marks reader_of reader_walk settings_of walk_for
-marks-same m s a f =
-    ap (λ (o : Outcome). marks m.registers.edition m.registers.enable m.registers.kseg a o (walk_for m a))
-    (access-answer m a (off _ s.test-off) s.context-served f s.buffer-fits s.inv)
-
 module _ (m : Machine) (slots : Slots) (s : Sound m) (same : SameSlots m.buffer slots) where
   pub follows : (e : Effect) (m' : Machine) → Fit e → Leads m e m' → Follows m slots e m'
   unfolding Leads Fit reader_does slots_do reader_of reader_walk settings_of walk_for
@@ -151,16 +160,13 @@ module _ (m : Machine) (slots : Slots) (s : Sound m) (same : SameSlots m.buffer 
   follows (Serve a) m' f l = record {
     sound =
         led-sound _ _ _ m' l
-        (groups-inv (marks_on m a) m.words (access_buffer m a) (access-fits m a ∙ s.buffer-fits)
-        (access-inv m a (off _ s.test-off) s.context-served f s.buffer-fits s.inv))
-        (after-fits (marks_on m a) m.words (access_buffer m a) ∙ access-fits m a ∙ s.buffer-fits)
-        (rewritten-fit (marks_on m a) m.words ∙ s.words-fit)
+        (access-inv m a (off _ s.test-off) s.context-served f s.buffer-fits s.inv)
+        (access-fits m a ∙ s.buffer-fits)
+        s.words-fit
         s.context-served;
-    reader = rw (← marks-same m s a f) (led-reader _ _ _ m' l);
-    same-slots = rw (← marks-same m s a f)
-        (led-slots _ _ _ m' l _
-        (groups-same (marks_on m a) m.words (access_buffer m a) _ (access-fits m a ∙ s.buffer-fits)
-        (access-same m a slots same s.inv s.buffer-fits s.context-served f (off _ s.test-off))));
+    reader = led-reader _ _ _ m' l;
+    same-slots =
+        led-slots _ _ _ m' l _ (access-same m a slots same s.inv s.buffer-fits s.context-served f (off _ s.test-off));
   }
   follows (Rewrite gs) m' f l = record {
     sound =

@@ -94,5 +94,5 @@ throughout s at (e ∷ es) h = (given s at h.0, throughout (system_after s e) (A
 
 pub sequence-faults : SequenceFaults
 unfolding Demand3
-sequence-faults edition lent buffer reply words fits start tables events handed =
-    throughout _ Start events (demand3 edition lent buffer reply words fits start tables events handed)
+sequence-faults lent buffer reply words fits start tables events handed =
+    throughout _ Start events (demand3 lent buffer reply words fits start tables events handed)

@@ -3,8 +3,6 @@ pub mod Tries
 pub mod Serving
 pub mod Following
 pub mod EffectLaws
-pub mod LeafAnswers
-pub mod Marking
 pub mod Taking
 pub mod Refusing
 pub mod Theorem
@@ -12,4 +10,3 @@ pub mod Asking
 pub mod FaultValues
 pub mod Moments
 pub mod Pages
-pub mod Marks

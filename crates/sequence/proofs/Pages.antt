@@ -1,16 +1,18 @@
 -- No stale entry answers, and an aged page raises its exception. Assumes nothing.
-use Prim.Native.Nat.{ℕ}
+use Prim.Native.Nat.{ℕ, ◌≤◌}
 use mathlib.Core.Path.{◌≡◌, refl, sym, ap, ◌∙◌, subst}
-use mathlib.Core.Bool.{true, not}
+use mathlib.Core.Bool.{Bool, true, false, cond, not}
 use mathlib.Core.List.{[], ◌∷◌, ◌++◌}
 use native.Mathlib.Omega.{arith}
-use borrow.Author.Tests.{not-true}
+use lib.Dec.{eqb}
+use borrow.Author.Tests.{not-true, ne_eqb}
 use Rattle.runs.proofs.Bools.{both}
 use Rattle.entry.specs.Address.{vpn_of}
 use Rattle.entry.proofs.Fields.{vpn-lt}
 use Rattle.registers.specs.declared.Access.{Access}
 use Rattle.registers.specs.declared.Outcome.{Outcome}
-use Rattle.registers.specs.declared.Outcome.TheVariants.{Fault}
+use Rattle.registers.specs.declared.Outcome.TheVariants.{At, Fault}
+use Rattle.page_table.specs.Words.{leaf_valid, leaf_kernel, leaf_we, leaf_pfn}
 use Rattle.page_table.specs.Faults.{walk_fault, Tells, ToldByFault}
 use Rattle.page_table.specs.declared.Found.{Found}
 use Rattle.page_table.specs.declared.Stop.{Stop}
@@ -20,10 +22,13 @@ use Rattle.page_table.proofs.Stretches.{fit-roots}
 use Rattle.page_table.proofs.Walks.{Stands, walk-stands}
 use Rattle.page_table.proofs.FaultLaws.{walk-told}
 use Rattle.access.specs.Segments.{in_linear_segment}
-use Rattle.access.specs.Translation.{is_set}
+use Rattle.access.specs.Exceptions.{inv_exc, invalid_page, exception_value}
+use Rattle.access.specs.Translation.{is_set, page_address}
+use Rattle.access.proofs.Keeping.{exception-lt}
 use Rattle.store.specs.Machine.{Machine}
 use Rattle.mmu.specs.ServedAccess.{walk_for}
-use Rattle.sequence.specs.Reader.{Reader, settings_of, reader_walk, walk_answer, reader_answer}
+use Rattle.mmu.specs.FaultValues.{IsFault}
+use Rattle.sequence.specs.Reader.{Reader, settings_of, reader_walk, leaf_answer, walk_answer, reader_answer}
 use Rattle.sequence.specs.Effects.{AnswerOwed}
 use Rattle.sequence.specs.Requests.{effect_of}
 use Rattle.sequence.specs.Calls.{Call, Event, accepted, request_of, effect_by, handed}
@@ -36,9 +41,52 @@ use Rattle.sequence.specs.Moments.{system_after_all, moment_after_all}
 use Rattle.sequence.specs.Pages.{by_tables, FromTables, RaisedIfAged, AfterAnySequence}
 use Rattle.sequence.specs.Pages.{NoStaleEntry, AgedPageRaises}
 use Rattle.sequence.proofs.Serving.{reader_of}
-use Rattle.sequence.proofs.LeafAnswers.{aged-on, aged-off, leaf-address}
 use Rattle.sequence.proofs.Theorem.{demand3}
 use Rattle.sequence.proofs.Moments.{holds-now, holds-from, handed-from, holds_after}
+
+-- ---- a leaf's answer
+
+-- the exceptions of a page that is not valid, with inv_exc on: the invalid page's is among them
+aged-value : (ctrl : ℕ) (a : Access) (kernel we : Bool) → inv_exc ctrl ≡ true → 4 ≤ exception_value ctrl a false kernel we
+unfolding exception_value invalid_page
+aged-value ctrl a kernel we on = rw on (omega arith)
+
+module _ (ctrl : ℕ) (a : Access) (f : Found) where
+  aged-on : leaf_valid f.word ≡ false → inv_exc ctrl ≡ true → IsFault (λ value. (4 ≤ value) × (value ≤ 7)) (leaf_answer ctrl a f)
+  unfolding IsFault leaf_answer
+  aged-on aged on =
+      let low = aged-value ctrl a (leaf_kernel f.word) (leaf_we f.word) on in
+      let high = exception-lt ctrl a false (leaf_kernel f.word) (leaf_we f.word) in
+      rw (aged, on, ne_eqb (exception_value ctrl a false (leaf_kernel f.word) (leaf_we f.word)) 0 (λ e. omega arith)) (low, omega arith)
+
+  aged-off : leaf_valid f.word ≡ false → inv_exc ctrl ≡ false → leaf_answer ctrl a f ≡ Fault 8
+  unfolding leaf_answer walk_fault
+  aged-off aged off = rw (aged, off)
+
+  valid-answer : leaf_valid f.word ≡ true
+      → leaf_answer ctrl a f
+      ≡ cond (eqb (exception_value ctrl a true (leaf_kernel f.word) (leaf_we f.word)) 0)
+      (At (page_address (leaf_pfn f.word) a.address))
+      (Fault (exception_value ctrl a true (leaf_kernel f.word) (leaf_we f.word)))
+  unfolding leaf_answer
+  valid-answer t = rw t
+
+  -- an address is the leaf's, which is valid
+  leaf-address : (address : ℕ) → leaf_answer ctrl a f ≡ At address
+      → (leaf_valid f.word ≡ true) × (address ≡ page_address (leaf_pfn f.word) a.address)
+  unfolding IsFault
+  leaf-address address e = by-valid (leaf_valid f.word) refl (inv_exc ctrl) refl
+    where
+      by_value : (none : Bool) (frame value : ℕ) → cond none (At frame) (Fault value) ≡ At address → address ≡ frame
+      by_value true frame value q = cc
+      by_value false frame value q = absurd (let z : ◌≡◌ {A = ℕ} 0 1 = cc in omega arith)
+
+      by-valid : (v : Bool) → leaf_valid f.word ≡ v → (on : Bool) → inv_exc ctrl ≡ on
+          → (leaf_valid f.word ≡ true) × (address ≡ page_address (leaf_pfn f.word) a.address)
+      by-valid true t on i =
+          (t, by_value (eqb (exception_value ctrl a true (leaf_kernel f.word) (leaf_we f.word)) 0) _ _ (sym (valid-answer t) ∙ e))
+      by-valid false t true i = absurd (subst (IsFault (λ value. (4 ≤ value) × (value ≤ 7))) e (aged-on t i))
+      by-valid false t false i = absurd (let q = aged-off t i in let z : ◌≡◌ {A = ℕ} 0 1 = cc in omega arith)
 
 -- ---- an access that the tables decide
 
@@ -123,9 +171,9 @@ after_any : (Says : (given : Machine) (a : Access) (outcome : Outcome) → Type 
     → Says given a e.reply.outcome)
     → AfterAnySequence Says
 unfolding AfterAnySequence Demand3 HandedThroughout
-after_any Says now edition lent buffer reply words ok start wf earlier last h =
-    let s = begun edition reply buffer words in
-    let holds = demand3 edition lent buffer reply words ok start wf (earlier ++ (last ∷ [])) h in
+after_any Says now lent buffer reply words bf start wf earlier last h =
+    let s = begun reply buffer words in
+    let holds = demand3 lent buffer reply words bf start wf (earlier ++ (last ∷ [])) h in
     now (system_after_all s earlier) (moment_after_all s Start earlier) last
     (holds-now _ _ (last ∷ []) (holds-from s Start earlier (last ∷ []) holds))
     (handed-from s earlier (last ∷ []) h).0

@@ -13,7 +13,7 @@ use Rattle.slots.specs.Buffer.{Buffer}
 use Rattle.store.specs.Machine.{Machine}
 use Rattle.store.specs.TableStore.{store_refusal, store_reply, buffer_after_store, words_after_store}
 use Rattle.control.specs.Setting.{argument_refusal, setting_refusal, setting_reply}
-use Rattle.mmu.specs.ServedAccess.{may_be_served, served_refusal, served_reply, served_buffer, served_words}
+use Rattle.mmu.specs.ServedAccess.{may_be_served, served_refusal, served_reply, served_buffer}
 use Rattle.sequence.specs.Calls.{Call, Event, refusal, accepted, handed, left_by, Promise, Promised}
 use Rattle.sequence.specs.Calls.Call.{ServedAccess, TableStore, GuardedSetting}
 use Rattle.sequence.specs.Requests.{Request, own_refusal}
@@ -35,11 +35,11 @@ pub record Left (m : Machine) (c : Call) (reply : Reply) (buffer : Buffer) (word
 
 left-all : (m : Machine) (c : Call) (reply : Reply) (buffer : Buffer) (words : List ℕ) → accepted c ≡ false
     → Promise m c reply buffer words → Left m c reply buffer words
-unfolding Promise handed accepted refusal served_reply served_buffer served_words store_reply buffer_after_store words_after_store setting_reply by_refusal
+unfolding Promise handed accepted refusal served_reply served_buffer store_reply buffer_after_store words_after_store setting_reply by_refusal
 left-all m (ServedAccess given a) reply buffer words h p = record {
-  reply-is = p.reply-is ∙ rw h;
-  buffer-is = p.buffer-is ∙ rw h;
-  words_are = p.words_are ∙ rw h;
+  reply-is = p.0.reply-is ∙ rw h;
+  buffer-is = p.0.buffer-is ∙ rw h;
+  words_are = p.1;
 }
 left-all m (TableStore given q) reply buffer words h p = record {
   reply-is = p.reply-is ∙ rw h;

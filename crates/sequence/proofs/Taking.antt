@@ -1,6 +1,6 @@
 -- One lemma a call: an accepted call's promise leads where its effect leads, and gives what is owed. Assumes nothing.
-use Prim.Native.Nat.{ℕ, zero, suc, ◌<◌}
-use mathlib.Core.Path.{◌≡◌, refl, sym, ap, ap₂, ◌∙◌, subst}
+use Prim.Native.Nat.{ℕ, zero, suc}
+use mathlib.Core.Path.{◌≡◌, refl, sym, ap, ◌∙◌, subst}
 use mathlib.Core.Bool.{Bool, true, false, cond, ◌&&◌}
 use mathlib.Core.List.{List, [], ◌∷◌}
 use native.Mathlib.Omega.{arith}
@@ -22,16 +22,16 @@ use Rattle.access.specs.Translation.{Accepted, translate}
 use Rattle.access.proofs.AccessLaws.{draw-lt}
 use Rattle.access.proofs.Keeping.{translate-fits}
 use Rattle.store.specs.Machine.{Machine}
-use Rattle.store.specs.Rewrite.{Put, written, rewritten, buffer_after}
+use Rattle.store.specs.Rewrite.{Put, written}
 use Rattle.store.specs.TableStore.{stored_words, store_reply, buffer_after_store, words_after_store, TableStoreGives}
 use Rattle.control.specs.Setting.{is_guarded, switch_fits, argument_refusal, setting_refusal, setting_reply, GuardedSettingGives}
 use Rattle.mmu.specs.ServedAccess.{served_refusal, tried_reply, missed, loaded_at, registers_loaded, buffer_loaded, after_miss}
 use Rattle.mmu.specs.ServedAccess.{buffer_after_miss, first_try, walk_for, access_reply, access_buffer, served_reply, served_buffer}
-use Rattle.mmu.specs.ServedAccess.{served_words, marks_on, marked_reply, marked_buffer, marked_words, ServedAccessGives}
+use Rattle.mmu.specs.ServedAccess.{ServedAccessGives}
 use Rattle.mmu.proofs.ServedLaws.{served-accepted, loaded-accepted, first-accepted}
 use Rattle.sequence.specs.Reader.{settings_of, with_guarded, reader_walk, found_leaf}
 use Rattle.sequence.specs.Account.{Slots}
-use Rattle.sequence.specs.Effects.{emptied_all, AnswerOwed, CountOwed, loads_owed}
+use Rattle.sequence.specs.Effects.{rewritten, emptied_all, AnswerOwed, CountOwed, loads_owed}
 use Rattle.sequence.specs.Effects.Effect.{Serve}
 use Rattle.sequence.specs.Calls.{Call, refusal, accepted, request_of, effect_by, handed, Promise}
 use Rattle.sequence.specs.Requests.{effect_of}
@@ -41,8 +41,7 @@ use Rattle.sequence.specs.Sentences.{FirstTryAgrees, NoneStored}
 use Rattle.sequence.proofs.Tries.{Kept}
 use Rattle.sequence.proofs.Serving.{reader_of, access-loads, access-keeps, access-answer}
 use Rattle.sequence.proofs.Following.{SameSlots, misses-same, emptied-same}
-use Rattle.sequence.proofs.Marking.{mark-harmless}
-use Rattle.sequence.proofs.EffectLaws.{Sound, off, Leads, Fit, marks-same}
+use Rattle.sequence.proofs.EffectLaws.{Sound, off, buffer_after, Leads, Fit}
 
 unfoldable pub system_of : Machine → Slots → System
 system_of m slots = record { machine = m; reader = reader_of m; slots = slots }
@@ -92,66 +91,45 @@ none-stored m a = go (missed (first_try m a)) (walk_for m a)
 
 module _ (m : Machine) (slots : Slots) (s : Sound m) (same : SameSlots m.buffer slots) where
   module _ (a : Access) (reply : Reply) (buffer : Buffer) (words : List ℕ) (ok : accepted (ServedAccess m a) ≡ true)
-      (p : ServedAccessGives m a reply buffer words) where
+      (p : ServedAccessGives m a reply buffer) (q : words ≡ m.words) where
     given-ok : Accepted m.registers m.buffer a
     unfolding accepted refusal
     given-ok = (served-accepted m a (eqb-true (served_refusal m a) 0 ok)).0
 
-    reply-is : reply ≡ marked_reply m a
+    reply-is : reply ≡ access_reply m a
     unfolding served_reply by_refusal accepted refusal
     reply-is = p.reply-is ∙ rw ok
 
-    registers-are : reply.registers ≡ (access_reply m a).registers
-    unfolding marked_reply
-    registers-are = ap (λ (x : Reply). x.registers) reply-is
-
-    outcome-is : reply.outcome ≡ (access_reply m a).outcome
-    unfolding marked_reply
-    outcome-is = ap (λ (x : Reply). x.outcome) reply-is
-
-    loads-are : reply.loads ≡ (access_reply m a).loads
-    unfolding marked_reply
-    loads-are = ap (λ (x : Reply). x.loads) reply-is
-
-    buffer-is : buffer ≡ buffer_after (marks_on m a) m.words (access_buffer m a)
-    unfolding served_buffer marked_buffer by_refusal accepted refusal
+    buffer-is : buffer ≡ access_buffer m a
+    unfolding served_buffer by_refusal accepted refusal
     buffer-is = p.buffer-is ∙ rw ok
 
-    words_are : words ≡ rewritten (marks_on m a) m.words
-    unfolding served_words marked_words by_refusal accepted refusal
-    words_are = p.words_are ∙ rw ok
-
-    draw-ok : a.draw < 4
-    draw-ok = draw-lt a.draw given-ok.draw-fits
-
     kept : Kept reply.registers m.registers
-    kept = subst (λ (r : Registers). Kept r m.registers) (sym registers-are) (access-keeps m a)
+    kept = subst (λ (x : Reply). Kept x.registers m.registers) (sym reply-is) (access-keeps m a)
 
     counted : bit (missed (first_try m a) && found_leaf (walk_for m a)) ≡ loads_owed (reader_of m) slots (Serve a)
     unfolding loads_owed reader_of reader_walk walk_for settings_of
     counted = ap (λ (t : Bool). bit (t && found_leaf (walk_for m a))) (misses-same m a slots same (off _ s.test-off))
 
     access-taken : Taken m slots (ServedAccess m a) reply buffer words
-    unfolding effect_by request_of effect_of Fit Leads AnswerOwed CountOwed FirstTryAgrees NoneStored system_of reader_of settings_of
+    unfolding effect_by request_of effect_of Fit Leads AnswerOwed CountOwed FirstTryAgrees NoneStored system_of reader_of
     access-taken = record {
-      fit = draw-ok;
+      fit = draw-lt a.draw given-ok.draw-fits;
       leads = record {
         settings-are = kept.settings;
         buffer-is = buffer-is;
-        words_are = words_are;
-        registers-fit = ap registers_fit registers-are ∙ reply-fits m a given-ok;
+        words_are = q;
+        registers-fit =
+            ap (λ (x : Reply). registers_fit x.registers) reply-is ∙ reply-fits m a given-ok;
         test-off = kept.test ∙ s.test-off;
       };
       answer =
-          outcome-is ∙ access-answer m a (off _ s.test-off) s.context-served draw-ok s.buffer-fits s.inv;
+          ap (λ (x : Reply). x.outcome) reply-is
+          ∙ access-answer m a (off _ s.test-off) s.context-served (draw-lt a.draw given-ok.draw-fits) s.buffer-fits s.inv;
       count = tt;
       first-try = misses-same m a slots same (off _ s.test-off);
-      loads = loads-are ∙ access-loads m a ∙ counted;
-      else-none = λ z.
-          buffer-is
-          ∙ ap₂ (λ (gs : List (List Put)) (b : Buffer). buffer_after gs m.words b) (marks-same m s a draw-ok)
-          (none-stored m a (counted ∙ z))
-          ∙ mark-harmless (reader_of m) a m.buffer s.inv s.words-fit s.context-served;
+      loads = ap (λ (x : Reply). x.loads) reply-is ∙ access-loads m a ∙ counted;
+      else-none = λ z. buffer-is ∙ none-stored m a (counted ∙ z);
     }
 
   -- ---- a table store
@@ -249,11 +227,16 @@ pub taken : (m : Machine) (slots : Slots) → Sound m → SameSlots m.buffer slo
     → (c : Call) (reply : Reply) (buffer : Buffer) (words : List ℕ) → accepted c ≡ true → handed m c ≡ m → Promise m c reply buffer words
     → Taken m slots c reply buffer words
 unfolding handed Promise
-taken m slots s same (ServedAccess given a) reply buffer words ok e p =
-    subst (λ (x : Machine). Taken m slots (ServedAccess x a) reply buffer words) (sym e)
-    (access-taken m slots s same a reply buffer words
-    (subst (λ (x : Machine). accepted (ServedAccess x a) ≡ true) e ok)
-    (subst (λ (x : Machine). ServedAccessGives x a reply buffer words) e p))
+taken m slots s same (ServedAccess given a) reply buffer words ok e p = go given e ok p
+  where
+    go : (g : Machine) → g ≡ m → accepted (ServedAccess g a) ≡ true → ServedAccessGives g a reply buffer × (words ≡ g.words)
+        → Taken m slots (ServedAccess g a) reply buffer words
+    go g e ok p =
+        subst (λ (x : Machine). Taken m slots (ServedAccess x a) reply buffer words) (sym e)
+        (access-taken m slots s same a reply buffer words
+        (subst (λ (x : Machine). accepted (ServedAccess x a) ≡ true) e ok)
+        (subst (λ (x : Machine). ServedAccessGives x a reply buffer) e p.0)
+        (p.1 ∙ ap (λ (x : Machine). x.words) e))
 taken m slots s same (TableStore given q) reply buffer words ok e p =
     subst (λ (x : Machine). Taken m slots (TableStore x q) reply buffer words) (sym e)
     (store-taken m slots s same q reply buffer words

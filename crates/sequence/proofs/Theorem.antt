@@ -12,9 +12,8 @@ use Rattle.entry.specs.Address.{vpn_of}
 use Rattle.entry.specs.Entry.{unpack, pack}
 use Rattle.entry.proofs.RoundTrips.{pack-unpack}
 use Rattle.entry.specs.declared.Entry.{Entry}
-use Rattle.registers.specs.Fields.{to_words, from_words, put, field, widths, fits_at, edition_fits, registers_fit, zero_registers, start_registers}
+use Rattle.registers.specs.Fields.{to_words, from_words, field, widths, fits_at, registers_fit, zero_registers}
 use Rattle.registers.specs.Refusals.{by_refusal, refuse_unless}
-use Rattle.registers.proofs.RefusalLaws.{passed}
 use Rattle.registers.specs.declared.Registers.{Registers}
 use Rattle.registers.specs.declared.Reply.{Reply}
 use Rattle.page_table.specs.Stretches.{tables_fit}
@@ -147,7 +146,7 @@ step-taken s e g h ok =
     subst (λ (x : System). Step x e) (system-is s g)
     (taken_of s.machine s.slots e (subst Good (sym (system-is s g)) g) h ok)
 
-pub step : (s : System) (e : Event) → Good s → Handed s.machine e → Step s e
+step : (s : System) (e : Event) → Good s → Handed s.machine e → Step s e
 step s e g h = go (accepted e.call) refl
   where
     go : (b : Bool) → accepted e.call ≡ b → Step s e
@@ -169,60 +168,52 @@ start-shown : Shown Start
 unfolding IfAccepted IfRefused
 start-shown = record { answer = tt; loads = tt; count = tt; refusal = tt }
 
--- the one place that looks at which editions there are
-pub start-registers-fit : (edition : ℕ) → edition_fits edition ≡ true → registers_fit (start_registers edition) ≡ true
-unfolding start_registers put registers_fit zero_registers from_words to_words field fits_at widths all
-start-registers-fit edition h = rw h refl
+zero-fits : registers_fit zero_registers ≡ true
+unfolding registers_fit zero_registers from_words to_words field fits_at widths all
+zero-fits = refl
 
-start_test : (edition : ℕ) → (start_registers edition).test ≡ 0
-unfolding start_registers put to_words zero_registers from_words
-start_test edition = refl
+zero_test : zero_registers.test ≡ 0
+unfolding zero_registers from_words
+zero_test = refl
 
-start-context : (edition : ℕ) → (start_registers edition).context ≤ 62
-unfolding start_registers put to_words zero_registers from_words
-start-context edition = omega arith
+zero-context : zero_registers.context ≤ 62
+unfolding zero_registers from_words
+zero-context = omega arith
 
-start-settings : (edition : ℕ) (words : List ℕ) → settings_of (start_registers edition) ≡ (start_reader edition words).settings
-unfolding settings_of start_reader start_registers put to_words zero_registers from_words
-start-settings edition words = refl
+zero-settings : (words : List ℕ) → settings_of zero_registers ≡ (start_reader words).settings
+unfolding settings_of start_reader zero_registers from_words
+zero-settings words = refl
 
-module _ (edition : ℕ) (lent buffer : Buffer) (reply : Reply) (words : List ℕ) (ok : start_refusal edition lent ≡ 0)
-    (p : StartGives edition lent buffer reply) (wf : tables_fit words ≡ true) where
-  passes-edition : (edition_fits edition ≡ true) × (refuse_unless (buffer_fits lent) 2 0 ≡ 0)
-  unfolding start_refusal
-  passes-edition = passed (edition_fits edition) 1 _ (λ e. omega arith) ok
-
-  fits : buffer_fits lent ≡ true
-  fits = (passed (buffer_fits lent) 2 _ (λ e. omega arith) passes-edition.1).0
-
+module _ (lent buffer : Buffer) (reply : Reply) (words : List ℕ) (fits : buffer_fits lent ≡ true) (p : StartGives lent buffer reply)
+    (wf : tables_fit words ≡ true) where
   buffer-is : buffer ≡ start_buffer lent
-  unfolding started_buffer by_refusal
-  buffer-is = p.buffer-is ∙ rw ok
+  unfolding started_buffer start_refusal refuse_unless by_refusal
+  buffer-is = p.buffer-is ∙ rw fits
 
-  registers-are : reply.registers ≡ start_registers edition
-  unfolding start_reply by_refusal
-  registers-are = ap (λ (x : Reply). x.registers) p.reply-is ∙ rw ok
+  registers-are : reply.registers ≡ zero_registers
+  unfolding start_reply start_refusal refuse_unless by_refusal
+  registers-are = ap (λ (x : Reply). x.registers) p.reply-is ∙ rw fits
 
-  begun-sound : Sound (begun edition reply buffer words).machine
+  begun-sound : Sound (begun reply buffer words).machine
   unfolding begun
   begun-sound = record {
     inv = subst (Inv words) (sym buffer-is) (start-inv words lent fits);
-    registers-fit = ap registers_fit registers-are ∙ start-registers-fit edition passes-edition.0;
+    registers-fit = ap registers_fit registers-are ∙ zero-fits;
     buffer-fits = ap buffer_fits buffer-is ∙ start_fits lent ∙ fits;
     words-fit = wf;
-    test-off = ap (λ (r : Registers). r.test) registers-are ∙ start_test edition;
-    context-served = subst (λ (r : Registers). r.context ≤ 62) (sym registers-are) (start-context edition);
+    test-off = ap (λ (r : Registers). r.test) registers-are ∙ zero_test;
+    context-served = subst (λ (r : Registers). r.context ≤ 62) (sym registers-are) zero-context;
   }
 
-  pub begun-good : Good (begun edition reply buffer words)
+  begun-good : Good (begun reply buffer words)
   unfolding begun reader_of start_reader
   begun-good = record {
     sound = begun-sound;
-    reader-is = (λ j. record { words = words; settings = (ap settings_of registers-are ∙ start-settings edition words) j });
+    reader-is = (λ j. record { words = words; settings = (ap settings_of registers-are ∙ zero-settings words) j });
     same-slots = subst (λ (b : Buffer). SameSlots b start_slots) (sym buffer-is) (start-same lent fits);
   }
 
 pub demand3 : Demand3
 unfolding Demand3
-demand3 edition lent buffer reply words ok p wf es h =
-    throughout (begun edition reply buffer words) Start (begun-good edition lent buffer reply words ok p wf) start-shown es h
+demand3 lent buffer reply words fits p wf es h =
+    throughout (begun reply buffer words) Start (begun-good lent buffer reply words fits p wf) start-shown es h

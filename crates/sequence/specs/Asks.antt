@@ -4,7 +4,7 @@ use Rattle.registers.specs.declared.Outcome.{Outcome}
 use Rattle.store.specs.Machine.{Machine}
 use Rattle.store.specs.TableStore.{store_reply, buffer_after_store, words_after_store}
 use Rattle.control.specs.Setting.{setting_reply}
-use Rattle.mmu.specs.ServedAccess.{served_reply, served_buffer, served_words}
+use Rattle.mmu.specs.ServedAccess.{served_reply, served_buffer}
 use Rattle.sequence.specs.Calls.{Call, Event, accepted}
 use Rattle.sequence.specs.Calls.Call.{ServedAccess, TableStore, GuardedSetting}
 use Rattle.sequence.specs.Requests.{Request}
@@ -25,7 +25,7 @@ event_of m (ServedAccess given a) = record {
   call = ServedAccess given a;
   reply = served_reply given a;
   buffer = served_buffer given a;
-  words = served_words given a;
+  words = given.words;
 }
 event_of m (TableStore given p) = record {
   call = TableStore given p;

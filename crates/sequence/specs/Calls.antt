@@ -54,9 +54,10 @@ pub record Event : Type 0 where
 unfoldable pub left_by : Event → Machine
 left_by e = record { registers = e.reply.registers; buffer = e.buffer; words = e.words }
 
--- The promise that the function's own contract makes of a call. A guarded setting takes no run.
+-- The promise that the function's own contract makes of a call. A served access is lent the table words for reading alone, and a guarded
+-- setting takes no run.
 unfoldable pub Promise : Machine → Call → (reply : Reply) (buffer : Buffer) (words : List ℕ) → Type 0
-Promise m (ServedAccess given a) reply buffer words = ServedAccessGives given a reply buffer words
+Promise m (ServedAccess given a) reply buffer words = ServedAccessGives given a reply buffer × (words ≡ given.words)
 Promise m (TableStore given p) reply buffer words = TableStoreGives given p reply buffer words
 Promise m (GuardedSetting given number value) reply buffer words =
     GuardedSettingGives given number value reply × (buffer ≡ m.buffer) × (words ≡ m.words)

@@ -3,11 +3,11 @@ use Rattle.std.specs.Prelude.{ℕ, ◌≤◌, ◌<◌, ◌≡◌, true, List, []
 use Rattle.entry.specs.Address.{vpn_of}
 use Rattle.registers.specs.declared.Reply.{Reply}
 use Rattle.page_table.specs.Stretches.{tables_fit}
-use Rattle.slots.specs.Buffer.{Buffer, slot_at}
+use Rattle.slots.specs.Buffer.{Buffer, buffer_fits, slot_at}
 use Rattle.tlb.specs.Search.{hit_count}
 use Rattle.access.specs.Exceptions.{inv_exc}
 use Rattle.store.specs.Machine.{Machine}
-use Rattle.control.specs.Starting.{start_refusal, StartGives}
+use Rattle.control.specs.Starting.{StartGives}
 use Rattle.sequence.specs.Reader.{settings_of}
 use Rattle.sequence.specs.Calls.{Event, accepted, handed, Promised}
 use Rattle.sequence.specs.Systems.{System, begun, system_after, Moment, IfAccepted, IfRefused}
@@ -47,10 +47,9 @@ unfoldable pub HandedThroughout : System → List Event → Type 0
 HandedThroughout s [] = Unit {0}
 HandedThroughout s (e ∷ es) = Handed s.machine e × HandedThroughout (system_after s e) es
 
--- "Demand 3 holds for each edition". "Begin at the start state with page tables of any allowed size and content. Take any sequence of these calls, refused ones included."
+-- "Begin at the start state with page tables of any allowed size and content. Take any sequence of these calls, refused ones included."
 unfoldable pub Demand3 : Type 0
 Demand3 =
-    (edition : ℕ) (lent buffer : Buffer) (reply : Reply) (words : List ℕ) → start_refusal edition lent ≡ 0
-    → StartGives edition lent buffer reply → tables_fit words ≡ true
-    → (events : List Event) → HandedThroughout (begun edition reply buffer words) events
-    → HoldsThroughout (begun edition reply buffer words) Start events
+    (lent buffer : Buffer) (reply : Reply) (words : List ℕ) → buffer_fits lent ≡ true → StartGives lent buffer reply → tables_fit words ≡ true
+    → (events : List Event) → HandedThroughout (begun reply buffer words) events
+    → HoldsThroughout (begun reply buffer words) Start events

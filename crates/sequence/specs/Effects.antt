@@ -4,17 +4,21 @@ use Rattle.runs.specs.Bits.{bit}
 use Rattle.registers.specs.declared.Access.{Access}
 use Rattle.registers.specs.declared.Outcome.{Outcome}
 use Rattle.registers.specs.declared.Outcome.TheVariants.{Done}
-use Rattle.store.specs.Rewrite.{Put, written, rewritten}
-use Rattle.mmu.specs.Marks.{marks}
+use Rattle.store.specs.Rewrite.{Put, written}
 use Rattle.sequence.specs.Reader.{Reader, with_guarded, reader_walk, found_leaf, reader_answer}
 use Rattle.sequence.specs.Account.{Slots, try_misses, slots_loaded, slots_swept, slots_emptied}
 
--- Serve an access, its written mark included; Rewrite groups of table words, each group followed by one sweep; Set a guarded setting; or Keep all of that
+-- Serve an access; Rewrite groups of table words, each group followed by one sweep; Set a guarded setting; or Keep all of that
 pub data Effect : Type 0 where
   Keep : Effect
   Serve : (a : Access) → Effect
   Rewrite : (groups : List (List Put)) → Effect
   Set : (number value : ℕ) → Effect
+
+-- the words after all groups
+unfoldable pub rewritten : List (List Put) → (words : List ℕ) → List ℕ
+rewritten [] words = words
+rewritten (g ∷ gs) words = rewritten gs (written g words)
 
 -- the slots after all sweeps, and how many slots they empty
 unfoldable pub swept_all : List (List Put) → (words : List ℕ) → Slots → Slots
@@ -26,24 +30,17 @@ emptied_all [] words slots = 0
 emptied_all (g ∷ gs) words slots =
     slots_emptied (written g words) slots + emptied_all gs (written g words) (slots_swept (written g words) slots)
 
--- "document 01's reader, told the edition, makes the mark in its table words by the same rule": from its own answer and its own walk
-unfoldable pub reader_marks : Reader → Access → List (List Put)
-reader_marks d a =
-    marks d.settings.edition d.settings.enable d.settings.kseg a (reader_answer d a) (reader_walk d a)
-
 -- the reader after an effect
 unfoldable pub reader_does : Reader → Effect → Reader
 reader_does d Keep = d
-reader_does d (Serve a) = record { words = rewritten (reader_marks d a) d.words; settings = d.settings }
+reader_does d (Serve a) = d
 reader_does d (Rewrite gs) = record { words = rewritten gs d.words; settings = d.settings }
 reader_does d (Set number value) = record { words = d.words; settings = with_guarded d.settings number value }
 
 -- the account of the slots after an effect; d is the reader before it
 unfoldable pub slots_do : Reader → Slots → Effect → Slots
 slots_do d slots Keep = slots
-slots_do d slots (Serve a) =
-    swept_all (reader_marks d a) d.words
-    (cond (try_misses d.settings slots a) (slots_loaded (reader_walk d a) d.settings slots a) slots)
+slots_do d slots (Serve a) = cond (try_misses d.settings slots a) (slots_loaded (reader_walk d a) d.settings slots a) slots
 slots_do d slots (Rewrite gs) = swept_all gs d.words slots
 slots_do d slots (Set number value) = slots
 

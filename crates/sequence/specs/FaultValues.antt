@@ -4,10 +4,10 @@ use Rattle.registers.specs.declared.Access.{Access}
 use Rattle.registers.specs.declared.Outcome.{Outcome}
 use Rattle.registers.specs.declared.Reply.{Reply}
 use Rattle.page_table.specs.Stretches.{tables_fit}
-use Rattle.slots.specs.Buffer.{Buffer}
+use Rattle.slots.specs.Buffer.{Buffer, buffer_fits}
 use Rattle.access.specs.Segments.{in_linear_segment}
 use Rattle.access.specs.Translation.{is_set}
-use Rattle.control.specs.Starting.{start_refusal, StartGives}
+use Rattle.control.specs.Starting.{StartGives}
 use Rattle.mmu.specs.FaultValues.{IfFault, DecidedBy}
 use Rattle.sequence.specs.Reader.{Reader, reader_walk, reader_answer}
 use Rattle.sequence.specs.Effects.{Effect}
@@ -51,7 +51,6 @@ FaultsThroughout s at (e ∷ es) = IfAccepted FaultGiven at × FaultsThroughout 
 -- so of every sequence of which demand 3 speaks
 abbrev pub SequenceFaults : Type 0
 SequenceFaults =
-    (edition : ℕ) (lent buffer : Buffer) (reply : Reply) (words : List ℕ) → start_refusal edition lent ≡ 0
-    → StartGives edition lent buffer reply → tables_fit words ≡ true
-    → (events : List Event) → HandedThroughout (begun edition reply buffer words) events
-    → FaultsThroughout (begun edition reply buffer words) Start events
+    (lent buffer : Buffer) (reply : Reply) (words : List ℕ) → buffer_fits lent ≡ true → StartGives lent buffer reply → tables_fit words ≡ true
+    → (events : List Event) → HandedThroughout (begun reply buffer words) events
+    → FaultsThroughout (begun reply buffer words) Start events

@@ -10,4 +10,3 @@ pub mod Demand3
 pub mod Asks
 pub mod FaultValues
 pub mod Pages
-pub mod Marks

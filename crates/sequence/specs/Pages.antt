@@ -10,12 +10,12 @@ use Rattle.page_table.specs.Faults.{walk_fault, Tells}
 use Rattle.page_table.specs.declared.Found.{Found}
 use Rattle.page_table.specs.declared.Stop.{Stop}
 use Rattle.page_table.specs.declared.Walk.TheVariants.{Leaf, Absent, Broken}
-use Rattle.slots.specs.Buffer.{Buffer}
+use Rattle.slots.specs.Buffer.{Buffer, buffer_fits}
 use Rattle.access.specs.Segments.{in_linear_segment}
 use Rattle.access.specs.Exceptions.{inv_exc}
 use Rattle.access.specs.Translation.{is_set, page_address}
 use Rattle.store.specs.Machine.{Machine}
-use Rattle.control.specs.Starting.{start_refusal, StartGives}
+use Rattle.control.specs.Starting.{StartGives}
 use Rattle.mmu.specs.ServedAccess.{walk_for}
 use Rattle.mmu.specs.FaultValues.{IsFault}
 use Rattle.sequence.specs.Calls.{Event, accepted}
@@ -55,9 +55,8 @@ RaisedIfAged m a outcome = (f : Found) → walk_for m a ≡ Leaf f → leaf_vali
 -- whatever the calls before it have loaded.
 unfoldable pub AfterAnySequence : (Says : (given : Machine) (a : Access) (outcome : Outcome) → Type 0) → Type 0
 AfterAnySequence Says =
-    (edition : ℕ) (lent buffer : Buffer) (reply : Reply) (words : List ℕ) → start_refusal edition lent ≡ 0
-    → StartGives edition lent buffer reply → tables_fit words ≡ true
-    → (earlier : List Event) (last : Event) → HandedThroughout (begun edition reply buffer words) (earlier ++ (last ∷ []))
+    (lent buffer : Buffer) (reply : Reply) (words : List ℕ) → buffer_fits lent ≡ true → StartGives lent buffer reply → tables_fit words ≡ true
+    → (earlier : List Event) (last : Event) → HandedThroughout (begun reply buffer words) (earlier ++ (last ∷ []))
     → (given : Machine) (a : Access) → last.call ≡ ServedAccess given a → accepted last.call ≡ true → by_tables given a ≡ true
     → Says given a last.reply.outcome
 

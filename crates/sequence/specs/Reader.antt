@@ -1,5 +1,4 @@
--- Document 01's reader: it holds table words and a value for each guarded setting, and is told the edition at the start. It has no buffer,
--- and no answer reaches it.
+-- Document 01's reader: it holds table words and a value for each guarded setting. It has no buffer, and no answer reaches it.
 use Rattle.std.specs.Prelude.{ℕ, Bool, true, false, cond, not, ◌&&◌, List, eqb}
 use Rattle.entry.specs.Address.{vpn_of}
 use Rattle.registers.specs.Fields.{KSEG, CTRL, ENABLE, KBASE_LO, KBASE_HI, CONTEXT}
@@ -24,10 +23,8 @@ pub record Settings : Type 0 where
   pub kbase-lo : ℕ
   pub kbase-hi : ℕ
   pub context : ℕ
-  -- no guarded setting: the start alone sets it
-  pub edition : ℕ
 
--- the guarded settings among the registers, and the edition
+-- the guarded settings among the registers
 unfoldable pub settings_of : Registers → Settings
 settings_of r = record {
   kseg = r.kseg;
@@ -36,10 +33,9 @@ settings_of r = record {
   kbase-lo = r.kbase_lo;
   kbase-hi = r.kbase_hi;
   context = r.context;
-  edition = r.edition;
 }
 
--- a guarded setting writes its value, and none writes the edition
+-- a guarded setting writes its value
 unfoldable pub with_guarded : Settings → (number value : ℕ) → Settings
 with_guarded s number value = record {
   kseg = cond (eqb number KSEG) value s.kseg;
@@ -48,18 +44,17 @@ with_guarded s number value = record {
   kbase-lo = cond (eqb number KBASE_LO) value s.kbase-lo;
   kbase-hi = cond (eqb number KBASE_HI) value s.kbase-hi;
   context = cond (eqb number CONTEXT) value s.context;
-  edition = s.edition;
 }
 
 pub record Reader : Type 0 where
   pub words : List ℕ
   pub settings : Settings
 
--- "at first those of the table run, and a value for each guarded setting, at first 0"; "told the edition"
-unfoldable pub start_reader : (edition : ℕ) (words : List ℕ) → Reader
-start_reader edition words = record {
+-- "at first those of the table run, and a value for each guarded setting, at first 0"
+unfoldable pub start_reader : (words : List ℕ) → Reader
+start_reader words = record {
   words = words;
-  settings = record { kseg = 0; ctrl = 0; enable = 0; kbase-lo = 0; kbase-hi = 0; context = 0; edition = edition };
+  settings = record { kseg = 0; ctrl = 0; enable = 0; kbase-lo = 0; kbase-hi = 0; context = 0 };
 }
 
 -- "The reader's walk is the walk over these words under its CONTEXT."

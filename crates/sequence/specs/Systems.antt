@@ -14,11 +14,10 @@ pub record System : Type 0 where
   pub reader : Reader
   pub slots : Slots
 
--- the start in an edition
-unfoldable pub begun : (edition : ℕ) (reply : Reply) (buffer : Buffer) (words : List ℕ) → System
-begun edition reply buffer words = record {
+unfoldable pub begun : (reply : Reply) (buffer : Buffer) (words : List ℕ) → System
+begun reply buffer words = record {
   machine = record { registers = reply.registers; buffer = buffer; words = words };
-  reader = start_reader edition words;
+  reader = start_reader words;
   slots = start_slots;
 }
 

@@ -3,4 +3,3 @@ pub mod KeptLaws
 pub mod StoreLaws
 pub mod Scans
 pub mod Storing
-pub mod Marked

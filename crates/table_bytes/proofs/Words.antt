@@ -1,15 +1,14 @@
 -- The words that the tables' bytes hold: how many, each one, and all after one is written. Assumes nothing.
 use Prim.Native.Nat.{ℕ, ◌+◌, ◌*◌, ◌/◌, ◌≤◌, ◌<◌}
 use mathlib.Core.Path.{◌≡◌, sym, ap, ◌∙◌}
-use mathlib.Core.List.{List, [], ◌∷◌}
+use mathlib.Core.List.{List}
 use native.Mathlib.Omega.{arith}
 use lib.ListN.{length, get_or, set}
 use Rattle.wire.specs.Wire.{element_at, with_element}
 use Rattle.wire.proofs.Elements.{decoded-length, decoded-at, decoded-with, with-length}
 use Rattle.slots.specs.Buffer.{Buffer}
 use Rattle.store.specs.Sweep.{SweepGives, emptied, swept}
-use Rattle.store.specs.Rewrite.{Put, written}
-use Rattle.store.specs.Rewrite.{RewriteGives as WordRewriteGives}
+use Rattle.store.specs.Rewrite.{written}
 use Rattle.table_bytes.specs.TableBytes.{words_of, RewriteGives}
 
 pub words-length : (bytes : List ℕ) → length (words_of bytes) ≡ length bytes / 4
@@ -46,13 +45,3 @@ rewritten bytes after index value number b left h fits e s =
       buffer-is = s.buffer-is ∙ ap (λ (ws : List ℕ). swept ws b) words;
       bytes-are = e;
     }
-
--- the rewrite of one word's bytes is a rewrite of the words
-pub in_words : (p : Put) (bytes after : List ℕ) (number : ℕ) (b left : Buffer) → p.index < length (words_of bytes) → p.value < 4294967296
-    → RewriteGives p bytes after b left number → WordRewriteGives (p ∷ []) (words_of bytes) (words_of after) b left number
-unfolding written
-in_words p bytes after number b left h fits g = record {
-  number_is = g.number_is;
-  buffer-is = g.buffer-is;
-  words_are = ap words_of g.bytes-are ∙ words-with bytes p.index p.value h fits;
-}

@@ -15,12 +15,11 @@ use Rattle.trace.specs.declared.Command.{Command}
 use Rattle.trace.specs.declared.Command.TheVariants.{Serve, Store, Set, Malformed}
 
 module _ (m : Machine) (c : Command) (reply : Reply) where
-  pub serve-step : (a : Access) (buffer : Buffer) (words : List ℕ) → c ≡ Serve a → ServedAccessGives m a reply buffer words
-      → StepGives m c reply buffer words
+  pub serve-step : (a : Access) (buffer : Buffer) → c ≡ Serve a → ServedAccessGives m a reply buffer → StepGives m c reply buffer m.words
   unfolding step_reply buffer_after_step words_after_step
-  serve-step a buffer words e g =
-      subst (λ d. StepGives m d reply buffer words) (sym e)
-      (record { reply-is = g.reply-is; buffer-is = g.buffer-is; words_are = g.words_are })
+  serve-step a buffer e g =
+      subst (λ d. StepGives m d reply buffer m.words) (sym e)
+      (record { reply-is = g.reply-is; buffer-is = g.buffer-is; words_are = refl })
 
   pub store_step : (index value : ℕ) (buffer : Buffer) (words : List ℕ) → c ≡ Store index value
       → TableStoreGives m (record { index = index; value = value }) reply buffer words → StepGives m c reply buffer words

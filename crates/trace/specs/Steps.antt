@@ -6,7 +6,7 @@ use Rattle.slots.specs.Buffer.{Buffer}
 use Rattle.store.specs.Machine.{Machine}
 use Rattle.store.specs.TableStore.{store_reply, buffer_after_store, words_after_store}
 use Rattle.control.specs.Setting.{setting_reply}
-use Rattle.mmu.specs.ServedAccess.{served_reply, served_buffer, served_words}
+use Rattle.mmu.specs.ServedAccess.{served_reply, served_buffer}
 use Rattle.trace.specs.declared.Command.{Command}
 use Rattle.trace.specs.declared.Command.TheVariants.{Serve, Store, Set, Malformed}
 
@@ -24,7 +24,7 @@ buffer_after_step m (Set number value) = m.buffer
 buffer_after_step m Malformed = m.buffer
 
 unfoldable pub words_after_step : Machine → Command → List ℕ
-words_after_step m (Serve a) = served_words m a
+words_after_step m (Serve a) = m.words
 words_after_step m (Store index value) = words_after_store m (record { index = index; value = value })
 words_after_step m (Set number value) = m.words
 words_after_step m Malformed = m.words

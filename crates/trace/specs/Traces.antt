@@ -1,6 +1,6 @@
 -- A run of records: the lines one after the other, and the machine at the end.
-use Rattle.std.specs.Prelude.{ℕ, suc, ◌+◌, ◌*◌, ◌≤◌, ◌≡◌, List, [], ◌∷◌, ◌++◌, length, replicate}
-use Rattle.registers.specs.Fields.{start_registers}
+use Rattle.std.specs.Prelude.{ℕ, suc, ◌+◌, ◌*◌, ◌≡◌, List, [], ◌∷◌, ◌++◌, length, replicate}
+use Rattle.registers.specs.Fields.{zero_registers}
 use Rattle.slots.specs.Buffer.{Buffer}
 use Rattle.slots.specs.Start.{start_buffer}
 use Rattle.store.specs.Machine.{Machine}
@@ -24,18 +24,13 @@ machine_after m (c ∷ cs) = machine_after (machine_after_step m c) cs
 abbrev pub WORDS : ℕ
 WORDS = 16384
 
--- "an edition, 1 or 2"
-abbrev pub IsEdition : (edition : ℕ) → Type 0
-IsEdition edition = (1 ≤ edition) × (edition ≤ 2)
+-- the start state
+unfoldable pub start_machine : Buffer → Machine
+start_machine lent = record { registers = zero_registers; buffer = start_buffer lent; words = replicate WORDS 0 }
 
--- the start state of an edition
-unfoldable pub start_machine : (edition : ℕ) (lent : Buffer) → Machine
-start_machine edition lent =
-    record { registers = start_registers edition; buffer = start_buffer lent; words = replicate WORDS 0 }
-
--- what the program of an edition prints for an input; the lent buffer's numbers at first do not matter
-unfoldable pub trace_text : (edition : ℕ) (lent : Buffer) (input : List ℕ) → List ℕ
-trace_text edition lent input = lines_of (start_machine edition lent) 0 (commands_of input)
+-- what the program prints for an input; the lent buffer's numbers at first do not matter
+unfoldable pub trace_text : (lent : Buffer) (input : List ℕ) → List ℕ
+trace_text lent input = lines_of (start_machine lent) 0 (commands_of input)
 
 -- Reading in blocks gives the lines of the whole input: where a first stretch is whole records, the lines of both are its lines and then
 -- those of the rest, from the machine that it left and with the next record number; and so is the machine at the end.

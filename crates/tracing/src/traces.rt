@@ -1,7 +1,7 @@
 // A trace, block by block.
 ghost use Rattle.std.specs.Prelude.{◌≡◌, length, replicate};
 ghost use Rattle.slots.specs.Buffer.{Buffer};
-ghost use Rattle.trace.specs.Traces.{IsEdition, WORDS, start_machine};
+ghost use Rattle.trace.specs.Traces.{WORDS, start_machine};
 ghost use Rattle.tracing.specs.Blocks.{LinesFit};
 ghost use Rattle.tracing.specs.Traces.{TraceGives, goes_on};
 
@@ -47,20 +47,13 @@ pub fn run_blocks(
     last
 }
 
-// Runs the trace on standard input, from the start of an edition over zero tables.
-pub fn run(
-    buffer: &mut [u64],
-    words: &mut [u32],
-    input: &mut [u8],
-    out: &mut [u8],
-    edition: u32,
-) -> Block
-    requires { IsEdition edition × (length buffer.old ≡ 64) × (words.old ≡ replicate WORDS 0)
-        × LinesFit input.old out.old }
-    ensures { TraceGives (start_machine edition (Buffer.Wide buffer.old)) result
+// Runs the trace on standard input, from the start over zero tables.
+pub fn run(buffer: &mut [u64], words: &mut [u32], input: &mut [u8], out: &mut [u8]) -> Block
+    requires { (length buffer.old ≡ 64) × (words.old ≡ replicate WORDS 0) × LinesFit input.old out.old }
+    ensures { TraceGives (start_machine (Buffer.Wide buffer.old)) result
         (Buffer.Wide buffer.new) words.new input.new out.new }
 {
-    let started = control::start(buffer, edition);
+    let started = control::start(buffer);
     let registers = started.registers;
     run_blocks(registers, buffer, words, input, out)
 }

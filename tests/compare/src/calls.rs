@@ -3,7 +3,7 @@
 //! Every edge case is put whatever the number of cases; random ones fill it up. There are so many
 //! cases of the single calls, a fifth as many in dumps of the buffer, more than half as many served
 //! accesses, stores and settings on arbitrary states, and some more of these in sequences from the
-//! start. At last comes the story of an example.
+//! start.
 
 use crate::cases;
 use crate::comparison::Comparison;
@@ -23,6 +23,5 @@ pub fn compare(program: &str, seed: u64, number: usize) -> Result<bool, String> 
     cases::served_at_random(&mut comparison, &mut random, total);
     let total = comparison.count() + number / 20 * 13;
     cases::sequences(&mut comparison, &mut random, total);
-    cases::story::put(&mut comparison);
     Ok(comparison.finish())
 }

@@ -26,8 +26,8 @@ pub fn answer(request: &Request, tables: &mut Rc<Vec<u32>>) -> Answer {
     let mut buffer = request.buffer.clone();
     let mut kept = Vec::new();
     let (words, registers) = match request.call {
-        Call::Start { edition } => {
-            let (done, registers) = start(&mut buffer, edition);
+        Call::Start => {
+            let (done, registers) = start(&mut buffer);
             (words_of_done(done), registers)
         }
         Call::Raw(access) => {
@@ -47,7 +47,6 @@ pub fn answer(request: &Request, tables: &mut Rc<Vec<u32>>) -> Answer {
         }
         Call::Walk { .. } => ([3, 0, 0, 0], registers),
         Call::Served(access) => {
-            let tables = Rc::make_mut(tables);
             words_of_reply(served_access(registers, &mut buffer, tables, access))
         }
         Call::Store { index, value } => {
@@ -189,7 +188,7 @@ fn words_of_read(read: Result<u32, Refusal>) -> [u32; 4] {
     }
 }
 
-pub fn words_of_walk(walk: Walk) -> [u32; 4] {
+fn words_of_walk(walk: Walk) -> [u32; 4] {
     let global = |decided: Decided| u32::from(decided.tree == Tree::Global);
     match walk {
         Walk::Leaf(leaf) => [0, leaf.word, leaf.index as u32, global(leaf)],

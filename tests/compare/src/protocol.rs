@@ -7,9 +7,7 @@ use reference::{Access, Registers, FIELDS};
 
 #[derive(Clone, Copy, Debug)]
 pub enum Call {
-    Start {
-        edition: u32,
-    },
+    Start,
     Raw(Access),
     Write {
         number: u32,
@@ -53,7 +51,7 @@ impl Call {
     /// The kind and its four arguments.
     fn words(self) -> [u32; 5] {
         match self {
-            Call::Start { edition } => [0, edition, 0, 0, 0],
+            Call::Start => [0; 5],
             Call::Raw(access) => words_of_access(1, access),
             Call::Write { number, value } => [2, number, value, 0, 0],
             Call::Read { number } => [3, number, 0, 0, 0],
@@ -70,7 +68,7 @@ impl Call {
     fn from_words(words: [u32; 5]) -> Option<Call> {
         let [kind, first, second, _, _] = words;
         Some(match kind {
-            0 => Call::Start { edition: first },
+            0 => Call::Start,
             1 => Call::Raw(access_of(words)),
             2 => Call::Write {
                 number: first,
@@ -373,22 +371,12 @@ mod tests {
             tables: vec![0xAABB_CCDD],
         };
         let bytes = request.to_bytes();
-        assert_eq!(bytes.len(), 4 * (8 + 12) + 8 + 4);
+        assert_eq!(bytes.len(), 4 * (8 + 11) + 8 + 4);
         assert_eq!(bytes[..12], [0, 0, 0, 2, 0, 0, 0, 8, 1, 2, 3, 4]);
         assert_eq!(bytes[20..32], [0, 0, 0, 1, 0, 0, 0, 1, 0, 0, 0, 0]);
-        assert_eq!(bytes[72..80], [0, 0, 0, 10, 0, 0, 0, 11]);
-        assert_eq!(bytes[80..84], [0x11, 0x22, 0x33, 0x44]);
-        assert_eq!(bytes[88..], [0xAA, 0xBB, 0xCC, 0xDD]);
-    }
-
-    #[test]
-    fn a_start_names_its_edition() {
-        let call = Call::Start { edition: 2 };
-        let request = Request::without_run(call, Registers::default(), Vec::new());
-        assert_eq!(
-            request.to_bytes()[..12],
-            [0, 0, 0, 0, 0, 0, 0, 2, 0, 0, 0, 0]
-        );
+        assert_eq!(bytes[72..76], [0, 0, 0, 10]);
+        assert_eq!(bytes[76..80], [0x11, 0x22, 0x33, 0x44]);
+        assert_eq!(bytes[84..], [0xAA, 0xBB, 0xCC, 0xDD]);
     }
 
     #[test]
@@ -400,9 +388,8 @@ mod tests {
         assert_eq!(answer.words[3], 0x0C0D_0E0F);
         assert_eq!(answer.registers[0], 0x1011_1213);
         assert_eq!(answer.pool, None);
-        assert_eq!(answer.registers[11], 0x3C3D_3E3F);
-        assert_eq!(answer.buffer, [0x4041_4243_4445_4647]);
-        assert_eq!(answer.tables, [0x4849_4A4B]);
+        assert_eq!(answer.buffer, [0x3C3D_3E3F_4041_4243]);
+        assert_eq!(answer.tables, [0x4445_4647]);
     }
 
     #[test]
@@ -417,11 +404,11 @@ mod tests {
         let call = PoolCall::Give { pfn: 9 };
         let request = Request::on_pool(call, Registers::default(), pool, vec![0x31 << 56]);
         let bytes = request.to_bytes();
-        assert_eq!(bytes.len(), 4 * (8 + 12) + 520 + 8);
+        assert_eq!(bytes.len(), 4 * (8 + 11) + 520 + 8);
         assert_eq!(bytes[..8], [0, 0, 0, 11, 0, 0, 0, 9]);
-        assert_eq!(bytes[80..88], [1, 2, 3, 4, 5, 6, 7, 8]);
-        assert_eq!(bytes[88..90], [0x11, 0x12]);
-        assert_eq!(bytes[598..601], [0x27, 0x28, 0x31]);
+        assert_eq!(bytes[76..84], [1, 2, 3, 4, 5, 6, 7, 8]);
+        assert_eq!(bytes[84..86], [0x11, 0x12]);
+        assert_eq!(bytes[594..597], [0x27, 0x28, 0x31]);
         let answer = Answer::from_bytes(&bytes[16..], &request);
         assert_eq!(bytes.len() - 16, Answer::byte_length(&request, 0));
         assert_eq!(answer.pool, request.pool);
@@ -474,20 +461,20 @@ mod tests {
             ..Request::of_mups16(call, Registers::default(), state, vec![0x31 << 56])
         };
         let bytes = request.to_bytes();
-        assert_eq!(bytes.len(), 4 * (8 + 12) + 12 + 8 + 8);
+        assert_eq!(bytes.len(), 4 * (8 + 11) + 12 + 8 + 8);
         assert_eq!(bytes[..8], [0, 0, 0, 15, 0, 0, 0, 6]);
         assert_eq!(bytes[8..20], [1, 2, 3, 4, 5, 6, 7, 8, 0, 0, 0, 2]);
         let beside = [0, 0, 0, 31, 0, 0, 0, 1, 0, 0, 0xFE, 0xDC, 0x31];
-        assert_eq!(bytes[80..93], beside);
+        assert_eq!(bytes[76..89], beside);
         let (head, rest) = bytes.split_at(4 * HEAD_WORDS);
         assert_eq!(Request::rest_length(head), rest.len());
         let read = Request::from_bytes(head, rest).expect("there is such a call");
         assert_eq!(read.to_bytes(), bytes);
         assert_eq!(bytes.len() - 16 - 8, Answer::byte_length(&request, 0));
-        let answer = Answer::from_bytes(&bytes[16..108 - 8], &request);
+        let answer = Answer::from_bytes(&bytes[16..104 - 8], &request);
         assert_eq!(answer.state, request.state);
         assert_eq!(answer.buffer, request.buffer);
-        assert_eq!(answer.to_bytes(), bytes[16..100]);
+        assert_eq!(answer.to_bytes(), bytes[16..96]);
         assert!(UnitCall::from_words([15, 1, 0, 0, 0]).is_none());
     }
 }

@@ -8,7 +8,6 @@ use std::io::{self, BufReader, BufWriter, ErrorKind, Read, Write};
 /// Answers requests to the end of the input. Without a name, lists the faults.
 pub fn speak(name: Option<&str>) -> Result<bool, String> {
     let faults = Faults::of_passes().chain(Faults::of_mups16());
-    let faults = faults.chain(Faults::of_marks());
     let Some(name) = name else {
         faults.for_each(|faults| println!("{}", faults.name()));
         return Ok(true);

@@ -17,7 +17,6 @@ const SET: &str = "sequence: the setting is done";
 const SLOTS_AGREE: &str = "sequence: the 44 bits of the 64 slots are the account's";
 const SETTINGS_AGREE: &str = "sequence: the guarded settings are the reader's";
 const WORDS_AGREE: &str = "sequence: the table words are the reader's";
-const WALK_AGREES: &str = "sequence: the walk, its leaf's word too, is the reader's";
 const ONE_HIT: &str = "sequence: at most one hit on a page, ids 0 to 62, CTRL 0 to 7";
 const ONE_HIT_ALL: &str =
     "sequence: at most one hit on every touched page, ids 0 to 62, CTRL 0 to 7";
@@ -27,7 +26,7 @@ pub const PASS_EMPTIED: &str = "sequence: the pass's count is the account's";
 
 pub fn all() -> Vec<String> {
     let mut all = of_calls();
-    all.extend([WORDS_AGREE, WALK_AGREES].map(String::from));
+    all.push(WORDS_AGREE.to_string());
     all
 }
 
@@ -68,8 +67,6 @@ pub enum Told {
     },
     Setting,
     Words(Vec<u32>),
-    /// The four words of the answer.
-    Walk([u32; 4]),
     ReadBack(Step),
 }
 
@@ -144,7 +141,6 @@ impl Told {
             }
             Told::Setting => vec![(SET, got.words == [DONE, 0, 0, 0])],
             Told::Words(words) => vec![(WORDS_AGREE, got.tables == *words)],
-            Told::Walk(words) => vec![(WALK_AGREES, got.words == *words)],
             Told::ReadBack(step) => step.points(request, got),
         }
     }

@@ -41,8 +41,7 @@ impl Account {
     }
 
     /// The slot that an accepted access loads. It "loaded and counted one entry exactly when its
-    /// first try missed and the reader's walk found a leaf, else none". The reader has not heard of
-    /// the access yet: a mark comes behind the load.
+    /// first try missed and the reader's walk found a leaf, else none".
     pub fn access(&mut self, reader: &Reader, access: Access) -> Option<usize> {
         if !self.first_try_misses(reader, access) {
             return None;
@@ -65,7 +64,7 @@ impl Account {
         Some(slot(set, location))
     }
 
-    /// How many slots an accepted store or a mark empties, once the reader has written its word.
+    /// How many slots an accepted store empties, once the reader has written its word.
     pub fn store(&mut self, reader: &Reader) -> u32 {
         let mut emptied = 0;
         for set in 0..SETS {

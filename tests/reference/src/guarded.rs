@@ -11,7 +11,11 @@ pub fn guarded_setting(registers: Registers, number: u32, value: u32) -> Reply {
     }
     let mut words = registers.to_words();
     words[number as usize] = value;
-    Reply::unmarked(Outcome::Done(0), 0, Registers::from_words(words))
+    Reply {
+        outcome: Outcome::Done(0),
+        loads: 0,
+        registers: Registers::from_words(words),
+    }
 }
 
 fn check(registers: Registers, number: u32, value: u32) -> Result<(), Refusal> {

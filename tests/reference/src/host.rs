@@ -50,7 +50,7 @@ pub fn raw_access(
 pub fn served_access(
     registers: &mut [u8],
     buffer: &mut [u8],
-    tables: &mut [u8],
+    tables: &[u8],
     address: u32,
     user: bool,
     write: bool,
@@ -91,7 +91,7 @@ fn raw(registers: &mut [u8], buffer: &[u8], access: Access) -> Result<u64, Refus
 fn served(
     registers: &mut [u8],
     buffer: &mut [u8],
-    tables: &mut [u8],
+    tables: &[u8],
     access: Access,
 ) -> Result<u64, Refusal> {
     let fields = fields_of(registers)?;
@@ -99,7 +99,7 @@ fn served(
     check_table_bytes(tables)?;
     check_draw(access.draw)?;
     check_served(fields)?;
-    let reply = serve(fields, &mut InBytes(buffer), &mut InBytes(tables), access);
+    let reply = serve(fields, &mut InBytes(buffer), &InBytes(tables), access);
     write_fields(registers, reply.registers);
     Ok(answer_of_reply(reply))
 }

@@ -86,8 +86,8 @@ pub fn translate(
     buffer: &(impl Run<u64> + ?Sized),
     access: Access,
 ) -> Translation {
-    if is_linear(registers, access) {
-        let segment = segment(access.address);
+    let segment = segment(access.address);
+    if !access.user && registers.segment_is_linear(segment) {
         let rest = access.address % (1 << 28);
         let address = (registers.segment_base(segment) << 28) | rest;
         return Translation::Linear { address };
@@ -104,11 +104,6 @@ pub fn translate(
         }
         _ => Translation::SeveralHits,
     }
-}
-
-/// Rule 1: supervisor mode, and the segment's bit set.
-pub fn is_linear(registers: Registers, access: Access) -> bool {
-    !access.user && registers.segment_is_linear(segment(access.address))
 }
 
 /// "The three may come together."

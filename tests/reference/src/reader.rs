@@ -1,10 +1,10 @@
-//! The reader, who sees the calls, is told the edition and has no buffer.
+//! The reader, who sees the calls and has no buffer.
 //!
 //! It "is fed each call's arguments, never an answer; registers and runs handed in serve it only
 //! to decide a refusal". Shared with the served access, the store and the guarded setting are the
 //! walk, the fields of a leaf, the value of a walk's fault, the register fields with their widths
-//! and the arguments of an access. The refusals, the linear rule, the exceptions, the address, the
-//! writes and the mark are said here once more, by themselves.
+//! and the arguments of an access. The refusals, the linear rule, the exceptions, the address and
+//! the writes are said here once more, by themselves.
 
 use crate::fault;
 use crate::leaf::Leaf;
@@ -20,9 +20,6 @@ const ENABLE: usize = 2;
 const KBASE_LO: usize = 3;
 const KBASE_HI: usize = 4;
 const CONTEXT: usize = 5;
-
-/// Software bit 27 of a leaf.
-const WRITTEN: u32 = 0x0800_0000;
 
 /// The calls of a sequence.
 #[derive(Clone, Copy, Debug, PartialEq, Eq)]
@@ -56,17 +53,13 @@ pub enum Said {
 pub struct Reader {
     words: Vec<u32>,
     settings: [u32; SETTINGS],
-    edition: u32,
-    has_marked: bool,
 }
 
 impl Reader {
-    pub fn begin(words: Vec<u32>, edition: u32) -> Reader {
+    pub fn begin(words: Vec<u32>) -> Reader {
         Reader {
             words,
             settings: [0; SETTINGS],
-            edition,
-            has_marked: false,
         }
     }
 
@@ -79,25 +72,15 @@ impl Reader {
         self.settings
     }
 
-    /// Whether the last call that was heard made a mark.
-    pub fn has_marked(&self) -> bool {
-        self.has_marked
-    }
-
     /// "A refused call changes nothing. An accepted store writes its word. An accepted guarded
     /// setting writes its value. An accepted access gets the answer without a buffer from these
-    /// words and values", and "makes the mark in its table words by the same rule".
+    /// words and values, and changes none."
     pub fn hear(&mut self, handed: Handed, call: GuardedCall) -> Said {
-        self.has_marked = false;
-        if let Some(number) = Reader::refusal(handed, call) {
+        if let Some(number) = refusal(handed, call) {
             return Said::Refused(number);
         }
         match call {
-            GuardedCall::Access(access) => {
-                let said = self.answer(access);
-                self.has_marked = matches!(said, Said::At(_)) && self.mark(access);
-                said
-            }
+            GuardedCall::Access(access) => self.answer(access),
             GuardedCall::Store { index, value } => {
                 self.words[index as usize] = value;
                 Said::Written
@@ -107,25 +90,6 @@ impl Reader {
                 Said::Written
             }
         }
-    }
-
-    /// The first number of the table whose ground is given; "checked in this order, as far as the
-    /// call has the argument".
-    pub fn refusal(handed: Handed, call: GuardedCall) -> Option<u32> {
-        (1..=7).find(|&number| is_given(number, handed, call))
-    }
-
-    /// A write through the tables, in edition 2, sets its leaf's bit; true where it was not set.
-    fn mark(&mut self, access: Access) -> bool {
-        let by_tables = self.is_enabled() && self.linear_base(access).is_none();
-        let Walk::Leaf(leaf) = self.walk(access) else {
-            return false;
-        };
-        if self.edition != 2 || !access.write || !by_tables || leaf.word & WRITTEN != 0 {
-            return false;
-        }
-        self.words[leaf.index] += WRITTEN;
-        true
     }
 
     pub fn is_enabled(&self) -> bool {
@@ -189,13 +153,16 @@ impl Reader {
     }
 }
 
+/// The first number of the table whose ground is given; "checked in this order, as far as the
+/// call has the argument".
+fn refusal(handed: Handed, call: GuardedCall) -> Option<u32> {
+    (1..=7).find(|&number| is_given(number, handed, call))
+}
+
 fn is_given(number: u32, handed: Handed, call: GuardedCall) -> bool {
     use GuardedCall::{Access, Setting, Store};
     match (number, call) {
-        (1, _) => {
-            let edition = handed.registers.edition;
-            a_field_exceeds_its_bits(handed.registers) || !(1..=2).contains(&edition)
-        }
+        (1, _) => a_field_exceeds_its_bits(handed.registers),
         (2, Access(_) | Store { .. }) => handed.buffer != 64,
         (3, Access(_) | Store { .. }) => {
             let kilowords = handed.tables / 1024;

@@ -3,7 +3,7 @@
 use crate::address::SLOTS;
 use crate::heap::{Pool, MOST_FRAMES, PFNS};
 use crate::mups16::ENTRIES;
-use crate::registers::{fits, Registers, EDITIONS, FIELD_BITS};
+use crate::registers::{fits, Registers, FIELD_BITS};
 
 /// The last of the guarded settings' numbers.
 const CONTEXT: u32 = 5;
@@ -50,20 +50,12 @@ impl Refusal {
     }
 }
 
-/// Number 1: "a register field exceeds its bits", or the edition is none.
+/// Number 1: "a register field exceeds its bits".
 pub fn check_registers(registers: Registers) -> Result<(), Refusal> {
     for (word, bits) in registers.to_words().into_iter().zip(FIELD_BITS) {
         if !fits(word, bits) {
             return Err(Refusal::RegisterField);
         }
-    }
-    check_edition(registers.edition)
-}
-
-/// "Edition 0 or above 2 is number 1."
-pub fn check_edition(edition: u32) -> Result<(), Refusal> {
-    if !EDITIONS.contains(&edition) {
-        return Err(Refusal::RegisterField);
     }
     Ok(())
 }
@@ -124,7 +116,7 @@ pub fn check_index(index: u32, length: usize) -> Result<(), Refusal> {
     Ok(())
 }
 
-/// The first half of number 7: "unknown register number". The cause and the edition have no number.
+/// The first half of number 7: "unknown register number". The cause has no number.
 pub fn check_number(number: u32) -> Result<(), Refusal> {
     if number > 9 {
         return Err(Refusal::RegisterNumber);

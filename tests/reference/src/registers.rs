@@ -1,24 +1,20 @@
-//! The register fields: the numbers 0 to 9, then the cause, then the edition.
+//! The register fields: the numbers 0 to 9, then the cause.
 
-pub const FIELDS: usize = 12;
+pub const FIELDS: usize = 11;
 
 /// The numbers through which an entry is written and read.
 pub const SELECT: u32 = 6;
 pub const TLB_HI: u32 = 7;
 pub const TLB_LO: u32 = 8;
 
-/// The editions: in the second a served write marks its leaf.
-pub const EDITIONS: [u32; 2] = [1, 2];
-
-/// Field n is register number n up to 9; then exception value × 2 + write bit, and the edition,
-/// which have no number.
+/// Field n is register number n; the last is exception value × 2 + write bit.
 pub const FIELD_NAMES: [&str; FIELDS] = [
     "kseg", "ctrl", "enable", "kbase_lo", "kbase_hi", "context", "select", "tlb_hi", "tlb_lo",
-    "test", "cause", "edition",
+    "test", "cause",
 ];
 
-/// How many bits each field has. The edition's two hold 0 and 3 too, which are no editions.
-pub const FIELD_BITS: [u32; FIELDS] = [16, 3, 1, 32, 32, 6, 6, 25, 23, 1, 5, 2];
+/// How many bits each field has.
+pub const FIELD_BITS: [u32; FIELDS] = [16, 3, 1, 32, 32, 6, 6, 25, 23, 1, 5];
 
 #[derive(Clone, Copy, Debug, Default, PartialEq, Eq)]
 pub struct Registers {
@@ -36,14 +32,12 @@ pub struct Registers {
     pub test: u32,
     /// The cause register's own part: exception value × 2 + write bit.
     pub cause: u32,
-    /// 1 or 2, "set only at start".
-    pub edition: u32,
 }
 
 impl Registers {
     pub fn from_words(words: [u32; FIELDS]) -> Registers {
-        let [kseg, ctrl, enable, kbase_lo, kbase_hi, context, ..] = words;
-        let [.., select, tlb_hi, tlb_lo, test, cause, edition] = words;
+        let [kseg, ctrl, enable, kbase_lo, kbase_hi, context, select, tlb_hi, tlb_lo, test, cause] =
+            words;
         Registers {
             kseg,
             ctrl,
@@ -56,15 +50,6 @@ impl Registers {
             tlb_lo,
             test,
             cause,
-            edition,
-        }
-    }
-
-    /// "All registers 0" but the edition, which is the one asked for.
-    pub fn at_start(edition: u32) -> Registers {
-        Registers {
-            edition,
-            ..Registers::default()
         }
     }
 
@@ -81,7 +66,6 @@ impl Registers {
             self.tlb_lo,
             self.test,
             self.cause,
-            self.edition,
         ]
     }
 

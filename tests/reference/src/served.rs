@@ -1,10 +1,9 @@
-//! The served access: try, walk, load, try again; then, in edition 2, the mark.
+//! The served access: try, walk, load, try again.
 
 use crate::address::vpn;
 use crate::fault;
 use crate::leaf::Leaf;
 use crate::load::load;
-use crate::mark::mark;
 use crate::raw::{accepted_access, Access, RawAnswer, EXCEPTION_MISS};
 use crate::refusal::{
     check_buffer, check_draw, check_registers, check_served, check_tables, Refusal,
@@ -18,7 +17,7 @@ use crate::walk::{walk, Walk};
 pub fn served_access(
     registers: Registers,
     buffer: &mut [u64],
-    words: &mut [u32],
+    words: &[u32],
     access: Access,
 ) -> Reply {
     if let Err(refusal) = check(registers, buffer, words, access) {
@@ -31,36 +30,22 @@ pub fn served_access(
 pub fn serve(
     registers: Registers,
     buffer: &mut (impl RunMut<u64> + ?Sized),
-    words: &mut (impl RunMut<u32> + ?Sized),
-    access: Access,
-) -> Reply {
-    let reply = try_and_load(registers, buffer, words, access);
-    Reply {
-        mark: mark(registers, buffer, words, access, reply.outcome),
-        ..reply
-    }
-}
-
-/// All of it but the mark, which leaves answer, loads and registers as they are here.
-fn try_and_load(
-    registers: Registers,
-    buffer: &mut (impl RunMut<u64> + ?Sized),
     words: &(impl Run<u32> + ?Sized),
     access: Access,
 ) -> Reply {
     let (first, registers) = accepted_access(registers, buffer, access);
     if registers.enable == 0 || !is_miss(first) {
-        return Reply::unmarked(final_outcome(first), 0, registers);
+        return reply(final_outcome(first), 0, registers);
     }
     match walk(words, registers.context, vpn(access.address)) {
-        Walk::Absent(word) => Reply::unmarked(Outcome::Fault(fault::absent(word)), 0, registers),
-        Walk::Broken(word, _) => Reply::unmarked(Outcome::Fault(fault::broken(word)), 0, registers),
+        Walk::Absent(word) => reply(Outcome::Fault(fault::absent(word)), 0, registers),
+        Walk::Broken(word, _) => reply(Outcome::Fault(fault::broken(word)), 0, registers),
         Walk::Leaf(decided) => {
             let leaf = Leaf::from_word(decided);
             let vpn = vpn(access.address);
             let registers = load(registers, buffer, vpn, leaf, access.draw);
             let (second, registers) = accepted_access(registers, buffer, access);
-            Reply::unmarked(final_outcome(second), 1, registers)
+            reply(final_outcome(second), 1, registers)
         }
     }
 }
@@ -87,5 +72,13 @@ fn final_outcome(answer: RawAnswer) -> Outcome {
     match answer.address {
         Some(address) => Outcome::At(address),
         None => Outcome::Fault(answer.value),
+    }
+}
+
+fn reply(outcome: Outcome, loads: u32, registers: Registers) -> Reply {
+    Reply {
+        outcome,
+        loads,
+        registers,
     }
 }

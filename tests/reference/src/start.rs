@@ -1,23 +1,18 @@
-//! The start: every slot empty, all registers 0 but the edition.
+//! The start: every slot empty, all registers 0.
 
 use crate::address::{LOCATIONS, SETS};
 use crate::entry::Entry;
-use crate::refusal::{check_buffer, check_edition, Refusal};
+use crate::refusal::{check_buffer, Refusal};
 use crate::registers::Registers;
 
-/// Refusals 1, for the edition, and 2 in this order. "A refused start: all 0", the edition too.
-pub fn start(buffer: &mut [u64], edition: u32) -> (Result<(), Refusal>, Registers) {
-    if let Err(refusal) = check(buffer, edition) {
-        return (Err(refusal), Registers::default());
+/// The registers are all 0 whether or not the start is refused.
+pub fn start(buffer: &mut [u64]) -> (Result<(), Refusal>, Registers) {
+    let checked = check_buffer(buffer);
+    if checked.is_ok() {
+        for set in 0..SETS {
+            let stretch = &mut buffer[LOCATIONS * set..LOCATIONS * (set + 1)];
+            stretch.fill(Entry::empty(set).pack());
+        }
     }
-    for set in 0..SETS {
-        let stretch = &mut buffer[LOCATIONS * set..LOCATIONS * (set + 1)];
-        stretch.fill(Entry::empty(set).pack());
-    }
-    (Ok(()), Registers::at_start(edition))
-}
-
-fn check(buffer: &[u64], edition: u32) -> Result<(), Refusal> {
-    check_edition(edition)?;
-    check_buffer(buffer)
+    (checked, Registers::default())
 }

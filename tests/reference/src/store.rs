@@ -17,8 +17,11 @@ pub fn table_store(
     if let Err(refusal) = check(registers, buffer, words, index) {
         return Reply::refused(refusal, registers);
     }
-    let emptied = store(buffer, words, index, value);
-    Reply::unmarked(Outcome::Done(emptied), 0, registers)
+    Reply {
+        outcome: Outcome::Done(store(buffer, words, index, value)),
+        loads: 0,
+        registers,
+    }
 }
 
 /// A store that nothing refuses; the slots emptied.

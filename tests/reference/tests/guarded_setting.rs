@@ -6,7 +6,7 @@ fn set(number: u32, value: u32) -> (Outcome, u32) {
     let before = Registers {
         test: 1,
         cause: 31,
-        ..Registers::at_start(1)
+        ..Registers::default()
     };
     let reply = guarded_setting(before, number, value);
     assert_eq!(reply.loads, 0);
@@ -52,7 +52,7 @@ fn a_value_too_large_and_every_other_number_are_7() {
 fn a_register_field_too_large_comes_first() {
     let registers = Registers {
         test: 2,
-        ..Registers::at_start(1)
+        ..Registers::default()
     };
     for (number, value) in [(0, 0), (5, 64), (9, 0)] {
         let reply = guarded_setting(registers, number, value);

@@ -11,8 +11,7 @@ const LARGEST: [u32; SETTINGS] = [0xFFFF, 7, 1, u32::MAX, u32::MAX, 62];
 
 /// Registers whose every field is at its largest value.
 fn full() -> Vec<u8> {
-    let mut words = FIELD_BITS.map(|bits| ((1u64 << bits) - 1) as u32);
-    words[11] = 2;
+    let words = FIELD_BITS.map(|bits| ((1u64 << bits) - 1) as u32);
     words.iter().flat_map(|word| word.to_be_bytes()).collect()
 }
 
@@ -21,9 +20,8 @@ fn a_start_writes_every_byte_whatever_stood_there() {
     for dirt in [0x00, 0x5A, 0xFF] {
         let mut registers = [dirt; REGISTER_BYTES];
         let mut buffer = [dirt; BUFFER_BYTES];
-        assert_eq!(start(&mut registers, &mut buffer, 2), 0);
-        assert_eq!(registers[..44], [0; 44]);
-        assert_eq!(registers[44..], [0, 0, 0, 2]);
+        assert_eq!(start(&mut registers, &mut buffer), 0);
+        assert_eq!(registers, [0; REGISTER_BYTES]);
         for (slot, eight) in buffer.chunks_exact(8).enumerate() {
             let set = slot as u64 / 16;
             let number = u64::from_be_bytes(eight.try_into().unwrap());
@@ -39,9 +37,9 @@ fn a_start_is_the_start_over_words() {
     let mut registers = full();
     let mut buffer = vec![0xA5; BUFFER_BYTES];
     let mut numbers = vec![0xA5; SLOTS];
-    let (done, fields) = reference::start(&mut numbers, 1);
+    let (done, fields) = reference::start(&mut numbers);
     assert_eq!(done, Ok(()));
-    assert_eq!(start(&mut registers, &mut buffer, 1), 0);
+    assert_eq!(start(&mut registers, &mut buffer), 0);
     let words = fields.to_words();
     let words: Vec<u8> = words.iter().flat_map(|word| word.to_be_bytes()).collect();
     let numbers: Vec<u8> = numbers.iter().flat_map(|n| n.to_be_bytes()).collect();
@@ -49,28 +47,22 @@ fn a_start_is_the_start_over_words() {
 }
 
 #[test]
-fn a_start_is_refused_for_lengths_and_edition_alone_and_then_leaves_every_byte() {
-    for (registers, buffer, edition, number) in [
-        (0, 512, 1, 1),
-        (44, 512, 1, 1),
-        (47, 512, 2, 1),
-        (49, 512, 1, 1),
-        (52, 512, 1, 1),
-        (512, 48, 1, 1),
-        (47, 511, 1, 1),
-        (48, 512, 0, 1),
-        (48, 512, 3, 1),
-        (48, 512, u32::MAX, 1),
-        (48, 511, 0, 1),
-        (48, 0, 1, 2),
-        (48, 48, 2, 2),
-        (48, 511, 1, 2),
-        (48, 513, 2, 2),
+fn a_start_is_refused_for_its_lengths_alone_and_then_leaves_every_byte() {
+    for (registers, buffer, number) in [
+        (0, 512, 1),
+        (43, 512, 1),
+        (45, 512, 1),
+        (512, 44, 1),
+        (43, 511, 1),
+        (44, 0, 2),
+        (44, 44, 2),
+        (44, 511, 2),
+        (44, 513, 2),
     ] {
         let mut registers = vec![0xC3; registers];
         let mut buffer = vec![0x3C; buffer];
         let before = (registers.clone(), buffer.clone());
-        assert_eq!(start(&mut registers, &mut buffer, edition), number << 56);
+        assert_eq!(start(&mut registers, &mut buffer), number << 56);
         assert_eq!((registers, buffer), before);
     }
 }
@@ -113,7 +105,7 @@ fn a_refused_setting_has_its_number_and_leaves_every_byte() {
 #[test]
 fn number_1_comes_first_by_length_and_by_every_field() {
     for (number, value) in [(0, 0), (5, 63), (11, 0)] {
-        for length in [0, 44, 47, 49, 52, 512] {
+        for length in [0, 43, 45, 512] {
             let mut registers = vec![0; length];
             assert_eq!(guarded_setting(&mut registers, number, value), 1 << 56);
             assert_eq!(registers, vec![0; length]);
@@ -127,13 +119,6 @@ fn number_1_comes_first_by_length_and_by_every_field() {
             let before = registers.clone();
             assert_eq!(guarded_setting(&mut registers, number, value), 1 << 56);
             assert_eq!(registers, before, "{}", FIELD_NAMES[field]);
-        }
-        for edition in [0u32, 3, 0x100, u32::MAX] {
-            let mut registers = full();
-            registers[44..].copy_from_slice(&edition.to_be_bytes());
-            let before = registers.clone();
-            assert_eq!(guarded_setting(&mut registers, number, value), 1 << 56);
-            assert_eq!(registers, before, "edition {edition}");
         }
     }
 }

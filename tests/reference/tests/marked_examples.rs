@@ -6,7 +6,7 @@ const ALL_ENABLES: u32 = 7;
 
 fn start_buffer() -> Vec<u64> {
     let mut buffer = vec![u64::MAX; SLOTS];
-    assert_eq!(start(&mut buffer, 1), (Ok(()), Registers::at_start(1)));
+    assert_eq!(start(&mut buffer), (Ok(()), Registers::default()));
     buffer
 }
 
@@ -28,7 +28,7 @@ fn value_of_user_write(ctrl: u32, entries: &[Entry]) -> u32 {
         ctrl,
         enable: 1,
         context: 5,
-        ..Registers::at_start(1)
+        ..Registers::default()
     };
     let mut buffer = start_buffer();
     for (set, entry) in entries.iter().enumerate() {
@@ -51,7 +51,7 @@ fn access_of_examples_6_to_8(address: u32, user: bool) -> (RawAnswer, Registers)
         kseg: 0x1800,
         kbase_hi: 0x0007_B000,
         enable: 1,
-        ..Registers::at_start(1)
+        ..Registers::default()
     };
     let access = Access {
         address,
@@ -85,7 +85,7 @@ fn example_5_an_own_leaf_loaded() {
     let registers = Registers {
         enable: 1,
         context: 5,
-        ..Registers::at_start(1)
+        ..Registers::default()
     };
     let mut buffer = start_buffer();
     let access = Access {
@@ -94,7 +94,7 @@ fn example_5_an_own_leaf_loaded() {
         write: false,
         draw: 1,
     };
-    let reply = served_access(registers, &mut buffer, &mut words, access);
+    let reply = served_access(registers, &mut buffer, &words, access);
     assert_eq!((reply.outcome, reply.loads), (Outcome::At(0x123 * 8192), 1));
     assert_eq!(buffer[slot(1, 1)], 0x02A8_0123);
 }
@@ -138,7 +138,7 @@ fn example_13_the_location_comes_from_select() {
     let registers = Registers {
         enable: 1,
         select: 18,
-        ..Registers::at_start(1)
+        ..Registers::default()
     };
     let mut buffer = start_buffer();
     let (done, registers) = write_register(registers, &mut buffer, 7, 0x12345 * 64);

@@ -7,7 +7,7 @@ use reference::*;
 
 fn handed() -> Handed {
     Handed {
-        registers: Registers::at_start(1),
+        registers: Registers::default(),
         buffer: SLOTS,
         tables: 4096,
     }
@@ -25,7 +25,7 @@ fn store(reader: &mut Reader, index: usize, value: u32) -> Said {
 
 /// The reader of `Unit::new`'s tables, enabled under its identification.
 fn reader() -> Reader {
-    let mut reader = Reader::begin(Unit::new().words, 1);
+    let mut reader = Reader::begin(Unit::new().words);
     set(&mut reader, 2, 1);
     set(&mut reader, 5, ID);
     reader
@@ -70,11 +70,11 @@ fn the_readers_refusals_change_nothing() {
     let settings = reader.settings();
     let test_mode = Registers {
         test: 1,
-        ..Registers::at_start(1)
+        ..Registers::default()
     };
     let too_large = Registers {
         ctrl: 8,
-        ..Registers::at_start(1)
+        ..Registers::default()
     };
     let access = GuardedCall::Access(read(PAGE, 4));
     let past = GuardedCall::Store {

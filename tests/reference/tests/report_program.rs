@@ -1,4 +1,4 @@
-//! The report's text on small traces, whose lines are worked out by hand, by both editions.
+//! The report's text on small traces, whose lines are worked out by hand.
 
 use reference::report::{self, ByCounts, ByWalks, LeafWords, Report};
 use std::ffi::OsStr;
@@ -34,8 +34,7 @@ fn bytes(records: &[u64]) -> Vec<u8> {
 
 fn text_by<L: LeafWords>(number: usize, trace: &[u8]) -> String {
     let mut text = Vec::new();
-    let report = Report::of::<L>(1, trace);
-    assert_eq!(report, Report::of::<L>(2, trace));
+    let report = Report::of::<L>(trace);
     report.write(number, &mut text).unwrap();
     String::from_utf8(text).unwrap()
 }
@@ -276,7 +275,7 @@ impl Read for Failing<'_> {
 #[test]
 fn a_read_that_fails_leaves_the_file_unread() {
     for trace in [&[][..], WORKED] {
-        let report = Report::of::<ByCounts>(1, Failing(trace));
+        let report = Report::of::<ByCounts>(Failing(trace));
         assert_eq!(report, Report::Unread);
     }
 }
@@ -318,7 +317,7 @@ fn numbers_go_by_argument_and_each_file_starts_anew() {
         OsStr::new("no such file"),
     ];
     let mut output = Vec::new();
-    report::run(1, names, &mut output).unwrap();
+    report::run(names, &mut output).unwrap();
     let expected = [
         text(0, WORKED),
         "1 unread\n2 unread\n".to_string(),
@@ -332,6 +331,6 @@ fn numbers_go_by_argument_and_each_file_starts_anew() {
 #[test]
 fn no_argument_prints_nothing() {
     let mut output = Vec::new();
-    report::run(2, Vec::<PathBuf>::new(), &mut output).unwrap();
+    report::run(Vec::<PathBuf>::new(), &mut output).unwrap();
     assert!(output.is_empty());
 }

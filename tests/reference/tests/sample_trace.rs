@@ -1,5 +1,4 @@
-//! Document 01's sample trace as calls, to the unit of either edition, to the reader and to the
-//! account.
+//! Document 01's sample trace as calls, to the unit, to the reader and to the account.
 
 use reference::*;
 
@@ -12,14 +11,14 @@ struct Run {
 }
 
 impl Run {
-    fn begin(edition: u32) -> Run {
+    fn begin() -> Run {
         let mut buffer = vec![0; SLOTS];
-        let (_, registers) = start(&mut buffer, edition);
+        let (_, registers) = start(&mut buffer);
         Run {
             registers,
             buffer,
             words: vec![0; 16384],
-            reader: Reader::begin(vec![0; 16384], edition),
+            reader: Reader::begin(vec![0; 16384]),
             account: Account::begin(),
         }
     }
@@ -31,35 +30,31 @@ impl Run {
             buffer: SLOTS,
             tables: self.words.len(),
         };
-        let loaded = match call {
-            GuardedCall::Access(access) => self.account.access(&self.reader, access),
-            _ => None,
-        };
-        let loads = u32::from(loaded.is_some());
         let said = self.reader.hear(handed, call);
-        let (registers, buffer, words) = (self.registers, &mut self.buffer, &mut self.words);
+        let (registers, buffer) = (self.registers, &mut self.buffer);
         let reply = match call {
-            GuardedCall::Access(access) => served_access(registers, buffer, words, access),
+            GuardedCall::Access(access) => served_access(registers, buffer, &self.words, access),
             GuardedCall::Store { index, value } => {
-                table_store(registers, buffer, words, index, value)
+                table_store(registers, buffer, &mut self.words, index, value)
             }
             GuardedCall::Setting { number, value } => guarded_setting(registers, number, value),
         };
-        let outcome = match (said, call) {
-            (Said::At(address), _) => Outcome::At(address),
-            (Said::Fault(value), _) => Outcome::Fault(value),
-            (Said::Written, GuardedCall::Store { .. }) => {
-                Outcome::Done(self.account.store(&self.reader))
+        let (outcome, loads) = match (said, call) {
+            (Said::At(address), GuardedCall::Access(access)) => {
+                let loaded = self.account.access(&self.reader, access);
+                (Outcome::At(address), u32::from(loaded.is_some()))
             }
-            (Said::Written, _) => Outcome::Done(0),
+            (Said::Fault(value), GuardedCall::Access(access)) => {
+                let loaded = self.account.access(&self.reader, access);
+                (Outcome::Fault(value), u32::from(loaded.is_some()))
+            }
+            (Said::Written, GuardedCall::Store { .. }) => {
+                (Outcome::Done(self.account.store(&self.reader)), 0)
+            }
+            (Said::Written, _) => (Outcome::Done(0), 0),
             (said, _) => panic!("{said:?}"),
         };
         assert_eq!((reply.outcome, reply.loads), (outcome, loads));
-        let emptied = match self.reader.has_marked() {
-            true => Some(self.account.store(&self.reader)),
-            false => None,
-        };
-        assert_eq!(reply.mark.map(|mark| mark.emptied), emptied);
         self.registers = reply.registers;
         assert_eq!(self.words, self.reader.words());
         assert_eq!(
@@ -97,17 +92,8 @@ fn the_sample_trace_up_to_its_malformed_record() {
         (access(0x4000, true, false, 1), Outcome::Fault(0x310), 0),
         (store(1025, 0), Outcome::Done(1), 0),
     ];
-    for (edition, after_read, after_write) in
-        [(1, 0xD000_0123, 0xD000_0123), (2, 0xD000_0123, 0xD800_0123)]
-    {
-        let mut run = Run::begin(edition);
-        for (record, (call, outcome, loads)) in records.into_iter().enumerate() {
-            assert_eq!(run.call(call), (outcome, loads), "record {record}");
-            match record {
-                5 => assert_eq!(run.words[1025], after_read),
-                6 | 7 => assert_eq!(run.words[1025], after_write),
-                _ => {}
-            }
-        }
+    let mut run = Run::begin();
+    for (record, (call, outcome, loads)) in records.into_iter().enumerate() {
+        assert_eq!(run.call(call), (outcome, loads), "record {record}");
     }
 }

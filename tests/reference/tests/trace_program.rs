@@ -1,5 +1,4 @@
-//! The trace programs of both editions: document 01's worked example, and the shapes that are
-//! refused.
+//! The trace program: document 01's worked example, and the shapes that are refused.
 
 use reference::trace::text_of;
 
@@ -11,11 +10,8 @@ fn trace(records: &[u64]) -> Vec<u8> {
         .collect()
 }
 
-/// The text on which both editions agree.
 fn text(trace: &[u8]) -> String {
-    let text = text_of(1, trace);
-    assert_eq!(text, text_of(2, trace));
-    String::from_utf8(text).expect("the text is plain")
+    String::from_utf8(text_of(trace)).expect("the text is plain")
 }
 
 const EXAMPLE: [u64; 10] = [
@@ -63,10 +59,6 @@ fn the_examples_print_their_lines() {
         (
             include_bytes!("../../../examples/stops.trace"),
             include_str!("../../../examples/stops.lines"),
-        ),
-        (
-            include_bytes!("../../../examples/marks.trace"),
-            include_str!("../../../examples/marks.lines"),
         ),
     ];
     for (trace, lines) in examples {
@@ -149,7 +141,7 @@ fn the_pieces_in_which_the_input_comes_do_not_matter() {
     let trace = [trace(&EXAMPLE), vec![1, 2, 3]].concat();
     for piece in 1..20 {
         let mut text = Vec::new();
-        reference::trace::run(1, InPieces(&trace, piece), &mut text).unwrap();
-        assert_eq!(text, text_of(1, &trace), "{piece}");
+        reference::trace::run(InPieces(&trace, piece), &mut text).unwrap();
+        assert_eq!(text, text_of(&trace), "{piece}");
     }
 }

@@ -39,7 +39,7 @@ fn value(words: &[u32]) -> u32 {
     let value = value_served(words);
     assert_eq!(value_read(words), value);
     assert_eq!(answer_in_c(words) >> 32, 1 << 22 | u64::from(value));
-    let text = String::from_utf8(trace::text_of(1, &trace_of(words))).unwrap();
+    let text = String::from_utf8(trace::text_of(&trace_of(words))).unwrap();
     let last = text.lines().last().unwrap();
     assert!(last.ends_with(&format!(" fault {value:08X} 0")), "{last}");
     value
@@ -56,11 +56,11 @@ fn value_served(words: &[u32]) -> u32 {
 
 fn value_read(words: &[u32]) -> u32 {
     let handed = Handed {
-        registers: Registers::at_start(1),
+        registers: Registers::default(),
         buffer: SLOTS,
         tables: words.len(),
     };
-    let mut reader = Reader::begin(words.to_vec(), 1);
+    let mut reader = Reader::begin(words.to_vec());
     for (number, value) in [(2, 1), (5, ID)] {
         reader.hear(handed, GuardedCall::Setting { number, value });
     }
@@ -78,7 +78,7 @@ fn answer_in_c(words: &[u32]) -> u64 {
     host::served_access(
         &mut bytes(&unit.registers.to_words()),
         &mut buffer,
-        &mut bytes(words),
+        &bytes(words),
         address,
         true,
         true,
@@ -103,7 +103,7 @@ fn trace_of(words: &[u32]) -> Vec<u8> {
 
 /// How often the report counts 16 and 32 under ID.
 fn counted(words: &[u32]) -> [i64; 2] {
-    let Report::Totals(totals) = Report::of::<ByCounts>(1, &trace_of(words)[..]) else {
+    let Report::Totals(totals) = Report::of::<ByCounts>(&trace_of(words)[..]) else {
         panic!("no totals");
     };
     let columns = totals[ID as usize].columns();

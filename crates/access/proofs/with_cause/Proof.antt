@@ -1,7 +1,6 @@
 use native.Mathlib.Omega.{arith}
 use Rattle.runs.proofs.Bits.{byte_le}
 use Rattle.entry.proofs.Fields.{vpn-lt}
-use Rattle.registers.specs.Fields.{put, to_words, from_words}
 use Rattle.access.proofs.AccessLaws.{cause-is}
 use borrow.Author.Rules.{rules}
 use Rattle.access.proofs.with_cause.Statement.{statement}
@@ -26,7 +25,6 @@ add-q-2 : tie.Need-overflow-add-q-2
 add-q-2 c = omega (arith, byte_le c.before.before.before.args.a.write)
 
 returns : tie.Need-returns
-unfolding put to_words from_words
 returns c = cause-is _ _ _ _ _ c.before.before.vpn-of.ensures
 
 pub with-cause-spec : {M : Type 1} → statement M

@@ -13,23 +13,18 @@ refused-requires c κs = search rules
 same_length : tie.Need-same-length
 same_length c = search rules
 
-same-length-2 : tie.Need-same-length-2
-same-length-2 c = search rules
-
 returns : tie.Need-returns
 returns c = served-refused _ _ _ c.before.before.served-refusal.ensures _ c.before.if1.true c.refused.ensures
 
-serve-and-mark-requires : tie.Need-serve-and-mark-requires
-serve-and-mark-requires c κs = served-accepted _ _ (sym c.before.before.before.served-refusal.ensures ∙ c.before.before.if1.false)
+serve-requires : tie.Need-serve-requires
+serve-requires c κs = served-accepted _ _ (sym c.before.before.served-refusal.ensures ∙ c.before.if1.false)
 
-same-length-3 : tie.Need-same-length-3
-same-length-3 c = search rules
-
-same-length-4 : tie.Need-same-length-4
-same-length-4 c = search rules
+same-length-2 : tie.Need-same-length-2
+same-length-2 c = search rules
 
 returns-2 : tie.Need-returns-2
-returns-2 c = served-done _ _ _ c.before.before.before.before.before.before.before.before.served-refusal.ensures _ _ _ c.before.before.before.before.before.before.before.if1.false c.before.before.before.before.serve-and-mark.ensures
+returns-2 c = served-done _ _ _ c.before.before.before.before.before.served-refusal.ensures _ _
+    c.before.before.before.before.if1.false c.before.before.serve.ensures
 
 pub served-access-spec : {M : Type 1} → statement M
 served-access-spec =
@@ -38,9 +33,7 @@ served-access-spec =
     served-refusal-requires
     refused-requires
     same_length
-    same-length-2
     returns
-    serve-and-mark-requires
-    same-length-3
-    same-length-4
+    serve-requires
+    same-length-2
     returns-2)

@@ -40,7 +40,7 @@ loop-less c = omega arith
 
 loop-again : tie.Need-loop-preserved invariant-loop decreases-loop
 loop-again c = fetch-more _ _ _ _ _ _ c.before.before.before.loop.invariant c.before.before.loop-test.true
-    c.before.slot_of.ensures c.number_at.ensures.0
+    c.before.slot_of.ensures c.number_at.ensures.0 c.number_at.ensures.1
 
 same_length : tie.Need-same-length invariant-loop decreases-loop
 same_length c = c.before.loop.invariant.long ∙ sym c.before.before.before.before.requires.1

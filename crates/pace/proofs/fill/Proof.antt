@@ -3,17 +3,16 @@ use Rattle.pace.proofs.fill.Statement.{statement}
 use Rattle.pace.proofs.fill.Tie as tie
 
 abbrev invariant-loop : tie.invariant-loop
-invariant-loop buffer₀ words₀ registers₀ page₀ buffer words registers page =
-    (length buffer ≡ length buffer₀) × (length words ≡ length words₀) × (page ≤ 64)
+invariant-loop buffer₀ words registers₀ page₀ buffer registers page = (length buffer ≡ length buffer₀) × (page ≤ 64)
 
 abbrev decreases-loop : tie.decreases-loop
-decreases-loop buffer₀ words₀ registers₀ page₀ buffer words registers page = 64 - page
+decreases-loop buffer₀ words registers₀ page₀ buffer registers page = 64 - page
 
 loop-holds : tie.Need-loop-init invariant-loop decreases-loop
 loop-holds c = search rules
 
-accessing-requires : tie.Need-accessing-requires invariant-loop decreases-loop
-accessing-requires c κs = search rules
+reading-requires : tie.Need-reading-requires invariant-loop decreases-loop
+reading-requires c κs = search rules
 
 served-access-requires : tie.Need-served-access-requires invariant-loop decreases-loop
 served-access-requires c κs = search rules
@@ -30,9 +29,6 @@ loop-again c = search rules
 same_length : tie.Need-same-length invariant-loop decreases-loop
 same_length c = search rules
 
-same-length-2 : tie.Need-same-length-2 invariant-loop decreases-loop
-same-length-2 c = search rules
-
 returns : tie.Need-returns invariant-loop decreases-loop
 returns c = tt
 
@@ -43,11 +39,10 @@ fill_spec =
     invariant-loop
     decreases-loop
     loop-holds
-    accessing-requires
+    reading-requires
     served-access-requires
     add-page
     loop-less
     loop-again
     same_length
-    same-length-2
     returns)

@@ -3,11 +3,10 @@ use Rattle.pace.proofs.run_served.Statement.{statement}
 use Rattle.pace.proofs.run_served.Tie as tie
 
 abbrev invariant-loop : tie.invariant-loop
-invariant-loop buffer₀ words₀ scenario count registers₀ sum₀ i₀ buffer words registers sum i =
-    (length buffer ≡ length buffer₀) × (length words ≡ length words₀)
+invariant-loop buffer₀ words scenario count registers₀ sum₀ i₀ buffer registers sum i = length buffer ≡ length buffer₀
 
 abbrev decreases-loop : tie.decreases-loop
-decreases-loop buffer₀ words₀ scenario count registers₀ sum₀ i₀ buffer words registers sum i = count - i
+decreases-loop buffer₀ words scenario count registers₀ sum₀ i₀ buffer registers sum i = count - i
 
 loop-holds : tie.Need-loop-init invariant-loop decreases-loop
 loop-holds c = search rules
@@ -33,9 +32,6 @@ loop-again c = search rules
 same_length : tie.Need-same-length invariant-loop decreases-loop
 same_length c = search rules
 
-same-length-2 : tie.Need-same-length-2 invariant-loop decreases-loop
-same-length-2 c = search rules
-
 returns : tie.Need-returns invariant-loop decreases-loop
 returns c = tt
 
@@ -53,5 +49,4 @@ run-served-spec =
     loop-less
     loop-again
     same_length
-    same-length-2
     returns)

@@ -37,9 +37,6 @@ array-read-t32 c = search rules
 array-read-t35 : tie.Need-array-read-t35
 array-read-t35 c = search rules
 
-array-read-t38 : tie.Need-array-read-t38
-array-read-t38 c = search rules
-
 returns : tie.Need-returns
 unfolding from_words
 returns c = refl
@@ -59,5 +56,4 @@ from-words-spec =
     array-read-t29
     array-read-t32
     array-read-t35
-    array-read-t38
     returns)

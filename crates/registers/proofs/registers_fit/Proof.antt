@@ -1,22 +1,19 @@
 use mathlib.Core.Path.{refl}
 use native.Mathlib.Omega.{arith}
 use borrow.Author.Tests.{lt-ltb}
-use borrow.Author.Rules.{rules}
 use Rattle.runs.specs.Counts.{all}
 use Rattle.registers.specs.Fields.{to_words, field, widths, fits_at, registers_fit}
 use Rattle.registers.proofs.registers_fit.Statement.{statement}
 use Rattle.registers.proofs.registers_fit.Tie as tie
 
-edition-fits-requires : tie.Need-edition-fits-requires
-edition-fits-requires c κs = search rules
-
 returns : tie.Need-returns
 unfolding registers_fit all fits_at field to_words widths
 returns c = rw (
-  c.edition-fits.ensures,
-  lt-ltb c.before.before.before.before.before.before.before.before.before.before.args.r.kbase_lo 4294967296 (omega arith),
-  lt-ltb c.before.before.before.before.before.before.before.before.before.before.args.r.kbase_hi 4294967296 (omega arith),
+  lt-ltb c.before.before.before.before.before.before.before.before.before.args.r.kbase_lo 4294967296
+      (omega arith),
+  lt-ltb c.before.before.before.before.before.before.before.before.before.args.r.kbase_hi 4294967296
+      (omega arith),
 ) refl
 
 pub registers-fit-spec : {M : Type 1} → statement M
-registers-fit-spec = tie.close (tie.spec edition-fits-requires returns)
+registers-fit-spec = tie.close (tie.spec returns)

@@ -15,7 +15,7 @@ use std::hint::black_box;
 use std::time::Duration;
 use unit::Unit;
 
-type Start = unsafe extern "C" fn(*mut u8, usize, *mut u8, usize, u32) -> u64;
+type Start = unsafe extern "C" fn(*mut u8, usize, *mut u8, usize) -> u64;
 type GuardedSetting = unsafe extern "C" fn(*mut u8, usize, u32, u32) -> u64;
 type RawAccess =
     unsafe extern "C" fn(*mut u8, usize, *const u8, usize, u32, bool, bool, u32) -> u64;
@@ -24,7 +24,7 @@ type ServedAccess = unsafe extern "C" fn(
     usize,
     *mut u8,
     usize,
-    *mut u8,
+    *const u8,
     usize,
     u32,
     bool,

@@ -10,7 +10,6 @@ mod library {
             registers_len: usize,
             buffer: *mut u8,
             buffer_len: usize,
-            edition: u32,
         ) -> u64;
 
         pub fn mmu_guarded_setting(
@@ -36,7 +35,7 @@ mod library {
             registers_len: usize,
             buffer: *mut u8,
             buffer_len: usize,
-            tables: *mut u8,
+            tables: *const u8,
             tables_len: usize,
             address: u32,
             user: bool,

@@ -17,11 +17,10 @@ unsafe extern "C" fn start(
     registers_len: usize,
     buffer: *mut u8,
     buffer_len: usize,
-    edition: u32,
 ) -> u64 {
     let registers = from_raw_parts_mut(registers, registers_len);
     let buffer = from_raw_parts_mut(buffer, buffer_len);
-    host::start(registers, buffer, edition)
+    host::start(registers, buffer)
 }
 
 unsafe extern "C" fn guarded_setting(
@@ -54,7 +53,7 @@ unsafe extern "C" fn served_access(
     registers_len: usize,
     buffer: *mut u8,
     buffer_len: usize,
-    tables: *mut u8,
+    tables: *const u8,
     tables_len: usize,
     address: u32,
     user: bool,
@@ -63,7 +62,7 @@ unsafe extern "C" fn served_access(
 ) -> u64 {
     let registers = from_raw_parts_mut(registers, registers_len);
     let buffer = from_raw_parts_mut(buffer, buffer_len);
-    let tables = from_raw_parts_mut(tables, tables_len);
+    let tables = from_raw_parts(tables, tables_len);
     host::served_access(registers, buffer, tables, address, user, write, draw)
 }
 

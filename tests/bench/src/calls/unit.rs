@@ -3,7 +3,7 @@
 use super::second::CALLS;
 use super::Calls;
 use reference::host::{BUFFER_BYTES, REGISTER_BYTES};
-use reference::{start, Access, EDITIONS, SLOTS};
+use reference::{start, Access, SLOTS};
 
 #[derive(Clone, PartialEq, Eq)]
 pub struct Unit {
@@ -33,11 +33,8 @@ pub const PAGES: u32 = 80;
 
 const CONTEXT: u32 = 5;
 
-/// The edition of the programs that make no marks.
-const EDITION: u32 = EDITIONS[0];
-
-/// The place of each register that is not 0, and its value: CTRL, ENABLE, CONTEXT, the edition.
-const SETTINGS: [(usize, u32); 4] = [(1, 7), (2, 1), (5, CONTEXT), (11, EDITION)];
+/// The number of each register that is set, and its value: CTRL, ENABLE, CONTEXT.
+const SETTINGS: [(usize, u32); 3] = [(1, 7), (2, 1), (5, CONTEXT)];
 
 /// A present root or directory word that names number 1.
 const NAMES_FIRST: u32 = 0x8000_0001;
@@ -51,8 +48,8 @@ impl Unit {
             buffer: empty_buffer(),
             tables: vec![0; table_bytes.max(8192)],
         };
-        for (place, value) in SETTINGS {
-            put(&mut unit.registers, place, value);
+        for (number, value) in SETTINGS {
+            put(&mut unit.registers, number, value);
         }
         put(&mut unit.tables, CONTEXT as usize, NAMES_FIRST);
         put(&mut unit.tables, 512, NAMES_FIRST);
@@ -79,7 +76,6 @@ impl Unit {
                 registers.len(),
                 buffer.as_mut_ptr(),
                 buffer.len(),
-                EDITION,
             )
         }
     }
@@ -135,7 +131,7 @@ impl Unit {
                 registers.len(),
                 buffer.as_mut_ptr(),
                 buffer.len(),
-                self.tables.as_mut_ptr(),
+                self.tables.as_ptr(),
                 self.tables.len(),
                 address,
                 user,
@@ -175,7 +171,7 @@ pub fn read(page: u32, draw: u32) -> Access {
 
 fn empty_buffer() -> [u8; BUFFER_BYTES] {
     let mut numbers = [0; SLOTS];
-    let (done, _) = start(&mut numbers, EDITION);
+    let (done, _) = start(&mut numbers);
     done.expect("the buffer has its length");
     let mut bytes = [0; BUFFER_BYTES];
     for (eight, number) in bytes.chunks_exact_mut(8).zip(numbers) {

@@ -87,7 +87,7 @@ pub fn all(reads: Reads) -> Vec<String> {
 pub fn of(reads: Reads, trace: &[u8]) -> Vec<(String, bool)> {
     let (records, _) = trace.as_chunks();
     let block = reads.block;
-    let start = Unit::start(1);
+    let start = Unit::start();
     let mut unit = start.clone();
     let mut outcomes = Vec::new();
     for boundary in (block..records.len()).step_by(block) {

@@ -202,7 +202,7 @@ pub struct Kept {
 impl Kept {
     pub fn begin(unit: &Unit) -> Kept {
         Kept {
-            start: Unit::start(1),
+            start: Unit::start(),
             found: unit.clone(),
             boundaries: 0,
         }

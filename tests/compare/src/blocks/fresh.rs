@@ -25,7 +25,7 @@ pub fn trace() -> Vec<u8> {
 
 /// Those parts of what another trace leaves that would show if this one began with them.
 pub fn of(reads: Reads, other: &[u8]) -> Vec<(String, bool)> {
-    let start = Unit::start(1);
+    let start = Unit::start();
     let mut left = start.clone();
     for &record in other.as_chunks().0 {
         left.step(record);

@@ -10,7 +10,7 @@ const REFUSALS: [u32; 4] = [5, 6, 7, 8];
 /// Whether a record of each kind is accepted, and one is refused by each number.
 pub fn are_all_in(trace: &[u8]) -> bool {
     let (records, _) = trace.as_chunks::<RECORD_BYTES>();
-    let mut unit = Unit::start(1);
+    let mut unit = Unit::start();
     let (mut kinds, mut refusals) = (Vec::new(), Vec::new());
     for &record in records {
         match unit.step(record).outcome {

@@ -50,8 +50,7 @@ impl Student {
             exception: None,
         };
         if random.one_in(2) {
-            let edition = state::edition(random);
-            student.call(comparison, None, Call::Start { edition });
+            student.call(comparison, None, Call::Start);
         }
         if !random.one_in(4) {
             let number = random.pick(&[2, 9]);

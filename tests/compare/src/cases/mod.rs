@@ -2,7 +2,6 @@
 
 mod dump;
 pub mod forest;
-pub mod marks;
 mod raw;
 mod raw_edges;
 mod read;
@@ -16,7 +15,6 @@ mod start;
 pub mod state;
 pub mod steps;
 pub mod store;
-pub mod story;
 pub mod tables;
 mod walk;
 pub mod witnesses;
@@ -25,10 +23,9 @@ pub mod world;
 mod write;
 
 use crate::comparison::Comparison;
-use crate::protocol::{Call, Request};
+use crate::protocol::Request;
 use crate::put::Put;
 use crate::random::Random;
-use reference::vpn;
 use scene::Scene;
 use tables::ask_for_tables;
 use walk::Walks;
@@ -52,13 +49,13 @@ const TOO_LARGE: [u32; 10] = [
 ];
 
 /// Cases that are made on purpose; the first walk finds no table run.
-pub fn edges(to: &mut dyn Put, random: &mut Random) {
-    walk::without_run(to);
-    start::edges(to, random);
-    raw_edges::put(to, random);
-    write::edges(to, random);
-    read::edges(to, random);
-    walk::edges(to, random);
+pub fn edges(comparison: &mut Comparison, random: &mut Random) {
+    walk::without_run(comparison);
+    start::edges(comparison, random);
+    raw_edges::put(comparison, random);
+    write::edges(comparison, random);
+    read::edges(comparison, random);
+    walk::edges(comparison, random);
 }
 
 /// Random cases of the single calls mixed, until the total is reached, a part for each process.
@@ -92,15 +89,9 @@ pub fn served_edges(comparison: &mut Comparison, random: &mut Random) {
     ask_for_tables(comparison);
     served_edges::without_run(comparison, random);
     store::without_run(comparison, random);
-    put_served_edges(comparison, random);
-}
-
-/// Those that hand over a table run or take none.
-pub fn put_served_edges(to: &mut dyn Put, random: &mut Random) {
-    served_edges::put(to, random);
-    marks::put(to, random);
-    store::edges(to, random);
-    setting::edges(to, random);
+    served_edges::put(comparison, random);
+    store::edges(comparison, random);
+    setting::edges(comparison, random);
 }
 
 /// Random served accesses, stores and settings of arbitrary states, until the total is reached.
@@ -136,7 +127,6 @@ pub fn c_edges(to: &mut dyn Put, random: &mut Random) {
     raw_edges::put(to, random);
     served_edges::put(to, random);
     served_edges::every_length(to, random);
-    marks::put(to, random);
     store::edges(to, random);
     store::every_length(to, random);
     start_and_setting_edges(to, random);
@@ -169,20 +159,12 @@ pub fn any_start_or_setting(random: &mut Random) -> Request {
 
 fn put_any_served(comparison: &mut Comparison, random: &mut Random, scene: &mut Scene) {
     let request = match random.below(64) {
-        0 | 1 => return ask_for_tables(comparison),
-        2..=6 => setting::random(random, comparison.tables().len()),
+        0 => return ask_for_tables(comparison),
+        1..=6 => setting::random(random, comparison.tables().len()),
         7..=36 => store::random(random, scene, comparison.tables()),
         _ => served::random(random, scene, comparison.tables()),
     };
-    let call = request.call;
-    let context = request.registers[5];
     comparison.put(request);
-    if let Call::Served(access) = call {
-        if random.one_in(2) {
-            let page = vpn(access.address);
-            comparison.put(walk::of_page(random, context, page));
-        }
-    }
 }
 
 fn any_case(random: &mut Random, walks: &mut Walks) -> Request {

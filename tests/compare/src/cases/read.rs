@@ -1,6 +1,7 @@
 //! Register reads.
 
 use super::{state, TOO_LARGE};
+use crate::comparison::Comparison;
 use crate::protocol::{Call, Request};
 use crate::put::Put;
 use crate::random::Random;
@@ -10,14 +11,14 @@ fn request(registers: Registers, buffer: Vec<u64>, number: u32) -> Request {
     Request::without_run(Call::Read { number }, registers, buffer)
 }
 
-pub fn edges(comparison: &mut dyn Put, random: &mut Random) {
+pub fn edges(comparison: &mut Comparison, random: &mut Random) {
     refusals(comparison, random);
     selects(comparison, random);
     single_bits(comparison, random);
 }
 
 /// Every register edge with every number, a buffer of any length and one of the right length.
-fn refusals(comparison: &mut dyn Put, random: &mut Random) {
+fn refusals(comparison: &mut Comparison, random: &mut Random) {
     for registers in state::register_edges(random) {
         for number in (0..10).chain(TOO_LARGE) {
             for length in [random.pick(&state::LENGTHS), SLOTS] {
@@ -29,7 +30,7 @@ fn refusals(comparison: &mut dyn Put, random: &mut Random) {
 }
 
 /// TLB_HI and TLB_LO at every SELECT, with registers that may nearly be the slot's.
-fn selects(comparison: &mut dyn Put, random: &mut Random) {
+fn selects(comparison: &mut Comparison, random: &mut Random) {
     for select in 0..64 {
         for _ in 0..8 {
             let mut buffer = state::buffer(random, SLOTS);
@@ -47,7 +48,7 @@ fn selects(comparison: &mut dyn Put, random: &mut Random) {
 }
 
 /// A slot with one bit set, in a buffer of ones and the other way round.
-fn single_bits(comparison: &mut dyn Put, random: &mut Random) {
+fn single_bits(comparison: &mut Comparison, random: &mut Random) {
     for bit in 0..64 {
         for flip in [0, u64::MAX] {
             let registers = state::registers(random);

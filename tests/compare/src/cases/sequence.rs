@@ -13,10 +13,7 @@ use reference::*;
 use std::collections::BTreeSet;
 
 const STEPS_TO_ALL_PAGES: usize = 128;
-const STEPS_TO_ALL_WORDS: usize = 128;
-
-/// So many served accesses to one whose page is walked behind it.
-const ACCESSES_TO_A_WALK: usize = 3;
+const STEPS_TO_ALL_WORDS: usize = 256;
 
 /// The state as the start or the last accepted call left it, and what is known of it otherwise.
 struct Sequence {
@@ -40,11 +37,10 @@ pub fn put(to: &mut dyn PutInSequence, random: &mut Random, steps: usize) {
 
 impl Sequence {
     fn begin(to: &mut dyn PutInSequence, random: &mut Random) -> Sequence {
-        let edition = state::edition(random);
         let started = to.put_in_sequence(
             None,
             Request::without_run(
-                Call::Start { edition },
+                Call::Start,
                 state::registers(random),
                 state::buffer(random, SLOTS),
             ),
@@ -53,7 +49,7 @@ impl Sequence {
         Sequence {
             registers: Registers::from_words(started.registers),
             buffer: started.buffer,
-            witnesses: Witnesses::begin(words, edition),
+            witnesses: Witnesses::begin(words),
             steps: Steps::new(random, world),
             touched: BTreeSet::new(),
             run_is_kept: false,
@@ -93,17 +89,6 @@ impl Sequence {
         } else if !self.run_is_kept {
             ask_for_tables(to);
         }
-        if matches!(call, Call::Served(_)) && random.one_in(ACCESSES_TO_A_WALK) {
-            self.walk(to);
-        }
-    }
-
-    /// The walk of the last access's page, whose leaf shows the mark.
-    fn walk(&mut self, to: &mut dyn PutInSequence) {
-        let (page_id, vpn) = (self.registers.context, self.steps.page());
-        let request = self.request(Call::Walk { page_id, vpn });
-        let witness = self.witnesses.hear_of_walk(page_id, vpn);
-        to.put_in_sequence(Some(witness), request);
     }
 
     /// The next accepted call is handed what this one left.

@@ -12,7 +12,6 @@ use reference::*;
 pub fn put(comparison: &mut dyn Put, random: &mut Random) {
     refusals(comparison, random);
     grounds_together(comparison, random);
-    wrong_runs(comparison, random);
     walks(comparison, random);
     walks_apart(comparison, random);
     leaves(comparison, random);
@@ -107,16 +106,6 @@ fn grounds_together(comparison: &mut dyn Put, random: &mut Random) {
             comparison.put(request);
         }
         ask_for_tables(comparison);
-    }
-}
-
-/// Table runs of each wrong length, with nothing else wrong.
-fn wrong_runs(comparison: &mut dyn Put, random: &mut Random) {
-    for length in spoil::WRONG_RUNS {
-        let registers = enabled(random, 62);
-        let access = access(random, 0x21, 1);
-        let tables = vec![random.bits(32); length];
-        comparison.put(request(registers, state::empty_slots(), access, tables));
     }
 }
 

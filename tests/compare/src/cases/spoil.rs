@@ -66,13 +66,10 @@ pub fn spoil(random: &mut Random, request: &mut Request, kept: usize, grounds: &
     request.registers = registers.to_words();
 }
 
-/// Lengths of runs that are too short or no multiple of 1,024 words.
-pub const WRONG_RUNS: [usize; 9] = [1, 63, 64, 512, 1023, 1025, 1536, 2047, 2560];
-
-/// A run of a wrong length.
+/// A run that is too short or no multiple of 1,024 words.
 pub fn wrong_run(random: &mut Random) -> Vec<u32> {
     let length = match random.below(8) {
-        0..=3 => random.pick(&WRONG_RUNS),
+        0..=3 => random.pick(&[1, 63, 64, 512, 1023, 1025, 1536, 2047, 2560]),
         4 => 1 + random.below(1023),
         5 => 1025 + random.below(1023),
         _ => 64 + random.below(64),

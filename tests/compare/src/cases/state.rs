@@ -1,28 +1,10 @@
 //! Random registers and buffers, good ones and spoilt ones.
 
 use crate::random::Random;
-use reference::{start, Entry, Registers, EDITIONS, FIELDS, FIELD_BITS, LOCATIONS, SLOTS};
+use reference::{start, Entry, Registers, FIELDS, FIELD_BITS, LOCATIONS, SLOTS};
 
 /// The buffer lengths that are tried: the right one, then wrong ones.
 pub const LENGTHS: [usize; 6] = [64, 0, 1, 63, 65, 80];
-
-/// The edition's place among the registers.
-pub const EDITION: usize = FIELDS - 1;
-
-/// What is no edition: the first on either side, and some that are one once cut to fewer bits.
-pub const NO_EDITIONS: [u32; 10] = [0, 3, 4, 5, 6, 0x101, 0x102, 0x1_0001, 0x8000_0002, u32::MAX];
-
-pub fn edition(random: &mut Random) -> u32 {
-    random.pick(&EDITIONS)
-}
-
-pub fn no_edition(random: &mut Random) -> u32 {
-    match random.below(4) {
-        0 => 0,
-        1 => 3,
-        _ => random.pick(&NO_EDITIONS),
-    }
-}
 
 /// Registers whose fields all fit.
 pub fn registers(random: &mut Random) -> Registers {
@@ -39,7 +21,6 @@ pub fn registers(random: &mut Random) -> Registers {
             1 => random.pick(&[0, 1, 5, 62]),
             _ => registers.context,
         },
-        edition: edition(random),
         ..registers
     }
 }
@@ -68,27 +49,16 @@ pub fn spoil(random: &mut Random, registers: Registers) -> Registers {
     let mut words = registers.to_words();
     let several = random.one_in(3);
     for _ in 0..if several { 1 + random.below(4) } else { 1 } {
-        let field = random.pick(&[0, 1, 2, 5, 6, 7, 8, 9, 10, EDITION]);
-        words[field] = match field {
-            EDITION => no_edition(random),
-            _ => too_large(random, FIELD_BITS[field]),
-        };
+        let field = random.pick(&[0, 1, 2, 5, 6, 7, 8, 9, 10]);
+        words[field] = too_large(random, FIELD_BITS[field]);
     }
     Registers::from_words(words)
 }
 
-/// Good registers, each field at its largest value, past its bits in two ways, and several; each
-/// edition and what is none.
+/// Good registers, each field at its largest value, past its bits in two ways, and several.
 pub fn register_edges(random: &mut Random) -> Vec<Registers> {
     let mut edges = vec![registers(random)];
-    let none = [0, 3, random.pick(&NO_EDITIONS[2..])];
-    for edition in EDITIONS.into_iter().chain(none) {
-        edges.push(Registers {
-            edition,
-            ..registers(random)
-        });
-    }
-    for field in 0..EDITION {
+    for field in 0..FIELDS {
         let bits = FIELD_BITS[field];
         let mut values = vec![largest(bits), u32::MAX];
         if bits < 32 {
@@ -143,8 +113,7 @@ pub fn wrong_buffer(random: &mut Random) -> Vec<u64> {
 /// The buffer as a start leaves it.
 pub fn empty_slots() -> Vec<u64> {
     let mut buffer = vec![0; SLOTS];
-    let (done, _) = start(&mut buffer, 1);
-    done.expect("the buffer is 64 long");
+    start(&mut buffer).0.expect("the buffer is 64 long");
     buffer
 }
 

@@ -2,6 +2,7 @@
 
 use super::forest::{endings, Ending, Forest};
 use super::state;
+use crate::comparison::Comparison;
 use crate::protocol::{Call, Request};
 use crate::put::Put;
 use crate::random::Random;
@@ -20,28 +21,14 @@ fn request(registers: Registers, page_id: u32, vpn: u32, tables: Vec<u32>) -> Re
     }
 }
 
-/// The walk of a page in the run that is kept; its leaf shows the mark.
-pub fn of_page(random: &mut Random, page_id: u32, page: u32) -> Request {
-    request(beside(random), page_id, page, Vec::new())
-}
-
-/// Registers that come back whatever they are.
-fn beside(random: &mut Random) -> Registers {
-    let good = state::registers(random);
-    match random.one_in(8) {
-        true => state::spoil(random, good),
-        false => good,
-    }
-}
-
 /// The walk of a program that has not been given a run yet.
-pub fn without_run(comparison: &mut dyn Put) {
+pub fn without_run(comparison: &mut Comparison) {
     for page_id in [0, 63, 64] {
         comparison.put(request(Registers::default(), page_id, 0, Vec::new()));
     }
 }
 
-pub fn edges(comparison: &mut dyn Put, random: &mut Random) {
+pub fn edges(comparison: &mut Comparison, random: &mut Random) {
     pairs_of_endings(comparison, random);
     single_bits(comparison, random);
     lengths(comparison, random);
@@ -50,7 +37,7 @@ pub fn edges(comparison: &mut dyn Put, random: &mut Random) {
 
 /// Each ending of the global tree with each of the own tree, in a run of whole tables and in
 /// one that ends within a directory.
-fn pairs_of_endings(comparison: &mut dyn Put, random: &mut Random) {
+fn pairs_of_endings(comparison: &mut Comparison, random: &mut Random) {
     for global in endings() {
         for own in endings() {
             let odd = 512 * (6 + random.below(26)) - 1 - random.below(511);
@@ -76,7 +63,7 @@ fn pairs_of_endings(comparison: &mut dyn Put, random: &mut Random) {
 
 /// Each reserved bit and each high bit of the number alone, in a root and in a directory word
 /// of either tree. Any of these bits makes a good word of a run this short a broken one.
-fn single_bits(comparison: &mut dyn Put, random: &mut Random) {
+fn single_bits(comparison: &mut Comparison, random: &mut Random) {
     for bit in 3..31 {
         for root in [GLOBAL_ROOT, random.below(63)] {
             for in_directory in [false, true] {
@@ -93,7 +80,7 @@ fn single_bits(comparison: &mut dyn Put, random: &mut Random) {
 }
 
 /// Runs of every edge length, with many endings planted in each.
-fn lengths(comparison: &mut dyn Put, random: &mut Random) {
+fn lengths(comparison: &mut Comparison, random: &mut Random) {
     for length in LENGTHS {
         for _ in 0..4 {
             let (forest, planted) = planted(random, length);
@@ -103,7 +90,7 @@ fn lengths(comparison: &mut dyn Put, random: &mut Random) {
 }
 
 /// Page_ids and pages too large, and runs too short, each alone and together.
-fn arguments(comparison: &mut dyn Put, random: &mut Random) {
+fn arguments(comparison: &mut Comparison, random: &mut Random) {
     let mut all = Vec::new();
     for page_id in [0, 62, 63, 64, 127, 256, u32::MAX] {
         for page in [0, 524_287, 524_288, 0x8000_0000, u32::MAX] {
@@ -117,10 +104,10 @@ fn arguments(comparison: &mut dyn Put, random: &mut Random) {
 }
 
 /// Hands the run over with the first walk; the others find it kept.
-fn walks(comparison: &mut dyn Put, random: &mut Random, forest: Forest, all: &[(u32, u32)]) {
+fn walks(comparison: &mut Comparison, random: &mut Random, forest: Forest, all: &[(u32, u32)]) {
     let mut tables = forest.words;
     for &(page_id, page) in all {
-        let registers = beside(random);
+        let registers = state::registers(random);
         let tables = std::mem::take(&mut tables);
         comparison.put(request(registers, page_id, page, tables));
     }
@@ -177,7 +164,7 @@ impl Walks {
             1..=16 => (random.bits(6), random.bits(19)),
             _ => random.pick(&self.planted),
         };
-        let mut request = request(beside(random), page_id, page, tables);
+        let mut request = request(state::registers(random), page_id, page, tables);
         if random.one_in(8) {
             let length = random.pick(&state::LENGTHS);
             request.buffer = state::buffer(random, length);

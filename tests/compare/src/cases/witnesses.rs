@@ -1,6 +1,5 @@
 //! The reader and the account of a sequence, who are told nothing but the calls.
 
-use crate::expected::words_of_walk;
 use crate::protocol::{Call, Request};
 use crate::witness::{Left, LookAt, Told, Witness};
 use reference::*;
@@ -12,10 +11,10 @@ pub struct Witnesses {
 }
 
 impl Witnesses {
-    /// From a start in this edition, with these table words.
-    pub fn begin(words: Vec<u32>, edition: u32) -> Witnesses {
+    /// From a start, with these table words.
+    pub fn begin(words: Vec<u32>) -> Witnesses {
         Witnesses {
-            reader: Reader::begin(words, edition),
+            reader: Reader::begin(words),
             account: Rc::new(Account::begin()),
         }
     }
@@ -28,23 +27,16 @@ impl Witnesses {
             Call::Setting { number, value } => GuardedCall::Setting { number, value },
             other => panic!("{other:?} is no call of a sequence"),
         };
-        let handed = self.handed(request);
-        if let Some(number) = Reader::refusal(handed, call) {
-            return Witness::of_refusal(number);
-        }
-        let loaded = match call {
-            GuardedCall::Access(access) => {
-                let account = Rc::make_mut(&mut self.account);
-                account.access(&self.reader, access).is_some()
-            }
-            _ => false,
-        };
-        let said = self.reader.hear(handed, call);
-        if self.reader.has_marked() {
-            self.emptied();
-        }
+        let said = self.reader.hear(self.handed(request), call);
         let told = match (said, call) {
-            (said, GuardedCall::Access(_)) => Told::Access { said, loaded },
+            (Said::Refused(number), _) => return Witness::of_refusal(number),
+            (said, GuardedCall::Access(access)) => {
+                let slot = Rc::make_mut(&mut self.account).access(&self.reader, access);
+                Told::Access {
+                    said,
+                    loaded: slot.is_some(),
+                }
+            }
             (_, GuardedCall::Store { .. }) => Told::Store {
                 emptied: self.emptied(),
             },
@@ -104,21 +96,12 @@ impl Witnesses {
         }
     }
 
-    /// What the reader says of a page's walk under an identification.
-    pub fn hear_of_walk(&self, page_id: u32, vpn: u32) -> Witness {
-        let walk = walk(self.reader.words(), page_id, vpn);
-        Witness {
-            told: Told::Walk(words_of_walk(walk)),
-            left: None,
-        }
-    }
-
     /// The page that a slot holds.
     pub fn page_of(&self, slot: usize) -> u32 {
         vpn_of(slot, self.account.slot(slot))
     }
 
-    /// How many slots go with the store or the mark that the reader has just heard of.
+    /// How many slots go with the store that the reader has just heard of.
     fn emptied(&mut self) -> u32 {
         Rc::make_mut(&mut self.account).store(&self.reader)
     }

@@ -110,14 +110,13 @@ fn broken(random: &mut Random, words: &[u32], stretch: usize) -> u32 {
     broken_word(random, words.len(), why, stretch)
 }
 
-/// One bit of a leaf's valid, kernel, we, software or pfn, valid and the mark most often.
+/// One bit of a leaf's valid, kernel, we, software or pfn, valid most often.
 fn field_bit(random: &mut Random) -> u32 {
-    match random.below(8) {
+    match random.below(6) {
         0 | 1 => 1 << 30,
         2 => 1 << 29,
         3 => 1 << 28,
         4 => 1 << (19 + random.below(9)),
-        5 | 6 => WRITTEN,
         _ => 1 << random.below(19),
     }
 }

@@ -74,9 +74,6 @@ impl World {
                 let is_there = random.one_in(3) || table != tables[2];
                 if is_there && index < words.len() {
                     words[index] = PRESENT | random.bits(31);
-                    if !random.one_in(4) {
-                        words[index] &= !WRITTEN;
-                    }
                 }
             }
         }

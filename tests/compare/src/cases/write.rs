@@ -1,6 +1,7 @@
 //! Register writes.
 
 use super::{state, TOO_LARGE};
+use crate::comparison::Comparison;
 use crate::protocol::{Call, Request};
 use crate::put::Put;
 use crate::random::Random;
@@ -10,15 +11,14 @@ fn request(registers: Registers, buffer: Vec<u64>, number: u32, value: u32) -> R
     Request::without_run(Call::Write { number, value }, registers, buffer)
 }
 
-pub fn edges(comparison: &mut dyn Put, random: &mut Random) {
+pub fn edges(comparison: &mut Comparison, random: &mut Random) {
     refusals(comparison, random);
-    no_numbers(comparison, random);
     values(comparison, random);
     selects(comparison, random);
 }
 
 /// Every register edge with every length, every number and a value that may be too large.
-fn refusals(comparison: &mut dyn Put, random: &mut Random) {
+fn refusals(comparison: &mut Comparison, random: &mut Random) {
     for registers in state::register_edges(random) {
         for length in state::LENGTHS {
             for number in (0..10).chain(TOO_LARGE) {
@@ -30,19 +30,8 @@ fn refusals(comparison: &mut dyn Put, random: &mut Random) {
     }
 }
 
-/// The places of the cause and the edition, which have no number, with values that they could hold.
-fn no_numbers(comparison: &mut dyn Put, random: &mut Random) {
-    for number in [10, 11, 12] {
-        for value in 0..4 {
-            let registers = state::registers(random);
-            let buffer = state::buffer(random, SLOTS);
-            comparison.put(request(registers, buffer, number, value));
-        }
-    }
-}
-
 /// Every number with values around its width.
-fn values(comparison: &mut dyn Put, random: &mut Random) {
+fn values(comparison: &mut Comparison, random: &mut Random) {
     for (number, value) in state::register_values() {
         let registers = state::registers(random);
         let buffer = state::buffer(random, SLOTS);
@@ -51,7 +40,7 @@ fn values(comparison: &mut dyn Put, random: &mut Random) {
 }
 
 /// TLB_LO at every SELECT, over whatever stands there.
-fn selects(comparison: &mut dyn Put, random: &mut Random) {
+fn selects(comparison: &mut Comparison, random: &mut Random) {
     for select in 0..64 {
         for _ in 0..8 {
             let registers = Registers {

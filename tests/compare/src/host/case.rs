@@ -46,7 +46,7 @@ impl Case {
             Call::Raw(access) => words_of_access(0, access),
             Call::Served(access) => words_of_access(1, access),
             Call::Store { index, value } => [2, index, value, 0, 0],
-            Call::Start { edition } => [3, edition, 0, 0, 0],
+            Call::Start => [3, 0, 0, 0, 0],
             Call::Setting { number, value } => [4, number, value, 0, 0],
             other => panic!("{other:?} is no C call"),
         };
@@ -97,7 +97,7 @@ impl Case {
             Call::Store { index, value } => {
                 host::table_store(registers, buffer, tables, index, value)
             }
-            Call::Start { edition } => host::start(registers, buffer, edition),
+            Call::Start => host::start(registers, buffer),
             Call::Setting { number, value } => host::guarded_setting(registers, number, value),
             other => panic!("{other:?} is no C call"),
         };
@@ -157,8 +157,7 @@ mod tests {
             };
             words_of_bytes(&Case { call, runs }.to_bytes())
         };
-        let start = Call::Start { edition: 2 };
-        assert_eq!(words_of(start), [3, 2, 0, 0, 0, 0, 0, 0]);
+        assert_eq!(words_of(Call::Start), [3, 0, 0, 0, 0, 0, 0, 0]);
         let setting = Call::Setting {
             number: 5,
             value: 62,

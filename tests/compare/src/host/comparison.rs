@@ -136,8 +136,7 @@ impl Put for Comparison {
 
 impl PutInSequence for Comparison {
     /// The same call on numbers gives the outcomes, and its answer has to be that of the bytes.
-    /// Every answer has its tables, and nothing is asked of the program where they or a walk of
-    /// them are asked for.
+    /// Every answer has its tables, and nothing is asked of the program where they are asked for.
     fn put_in_sequence(
         &mut self,
         witness: Option<Witness>,
@@ -148,7 +147,7 @@ impl PutInSequence for Comparison {
         }
         let found = Rc::clone(&self.tables);
         let answer = expected::answer(&request, &mut self.tables);
-        if let Call::Tables | Call::Walk { .. } = request.call {
+        if let Call::Tables = request.call {
             return answer;
         }
         let beside = self.run_beside();

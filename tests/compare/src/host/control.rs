@@ -5,7 +5,7 @@ use super::lengths::{BUFFERS, REGISTERS};
 use crate::cases::state;
 use crate::protocol::Call;
 use crate::random::Random;
-use reference::{Registers, EDITIONS, FIELD_BITS, SLOTS};
+use reference::{FIELD_BITS, SLOTS};
 
 const REGISTER_BYTES: usize = REGISTERS[0];
 const BUFFER_BYTES: usize = BUFFERS[0];
@@ -16,8 +16,7 @@ const NO_SETTING: [u32; 5] = [6, 10, 11, 0x100, 0x1_0005];
 pub fn edges(to: &mut dyn PutCase, random: &mut Random) {
     for registers in register_bytes(random) {
         for buffer in buffer_bytes(random) {
-            let edition = state::edition(random);
-            to.put_case(case(Call::Start { edition }, registers.clone(), buffer));
+            to.put_case(case(Call::Start, registers.clone(), buffer));
         }
         let unknown = NO_SETTING.map(|number| (number, 0));
         for (number, value) in state::register_values().into_iter().chain(unknown) {
@@ -27,14 +26,11 @@ pub fn edges(to: &mut dyn PutCase, random: &mut Random) {
     }
 }
 
-/// All 0 but the edition, all fields at their largest value, all bits 1, any bytes.
+/// All 0, all fields at their largest value, all bits 1, any bytes.
 fn register_bytes(random: &mut Random) -> [Vec<u8>; 4] {
-    let mut largest = FIELD_BITS.map(state::largest);
-    largest[state::EDITION] = EDITIONS[1];
-    let started = Registers::at_start(EDITIONS[0]);
     [
-        bytes_of_words(&started.to_words()),
-        bytes_of_words(&largest),
+        vec![0; REGISTER_BYTES],
+        bytes_of_words(&FIELD_BITS.map(state::largest)),
         vec![0xFF; REGISTER_BYTES],
         any_bytes(random, REGISTER_BYTES),
     ]

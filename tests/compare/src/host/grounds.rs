@@ -9,14 +9,13 @@ use reference::*;
 /// A register length is a ground of its own.
 pub const BY_LENGTH: &str = "1 by length";
 const BY_CONTENT: &str = "1 by content";
-const BY_EDITION: &str = "1 by edition";
 
 /// Each call with the grounds that it can be refused on, in their order.
 const POSSIBLE: [(&str, &[&str]); 5] = [
     (RAW, &[BY_LENGTH, BY_CONTENT, "2", "4"]),
     (SERVED, &[BY_LENGTH, BY_CONTENT, "2", "3", "4", "5"]),
     (STORE, &[BY_LENGTH, BY_CONTENT, "2", "3", "6"]),
-    (START, &[BY_LENGTH, BY_EDITION, "2"]),
+    (START, &[BY_LENGTH, "2"]),
     (SETTING, &[BY_LENGTH, BY_CONTENT, "5", "7"]),
 ];
 
@@ -69,10 +68,7 @@ pub fn of(case: &Case) -> (&'static str, Vec<&'static str>) {
             let index = (index as usize >= runs.tables.len() / 4, "6");
             (STORE, vec![length, content, buffer, tables, index])
         }
-        Call::Start { edition } => {
-            let edition = (check_edition(edition).is_err(), BY_EDITION);
-            (START, vec![length, edition, buffer])
-        }
+        Call::Start => (START, vec![length, buffer]),
         Call::Setting { number, value } => {
             let switch = (check_switch(number, value).is_err(), "5");
             let setting = (check_setting(number, value).is_err(), "7");
@@ -96,5 +92,5 @@ pub fn is_table_length(bytes: usize) -> bool {
 
 fn fields_of(registers: &[u8]) -> Registers {
     let words = words_of_bytes(registers);
-    Registers::from_words(words.try_into().expect("the registers are twelve words"))
+    Registers::from_words(words.try_into().expect("the registers are eleven words"))
 }

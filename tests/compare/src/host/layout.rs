@@ -38,7 +38,7 @@ pub fn answer_of(answer: &case::Answer) -> Answer {
             0 => [DONE, low, loads, 0],
             _ => [REFUSED, (number >> 56) as u32, 0, 0],
         },
-        registers: registers.try_into().expect("the registers are 48 bytes"),
+        registers: registers.try_into().expect("the registers are 44 bytes"),
         pool: None,
         state: None,
         buffer: numbers_of_bytes(&answer.runs.buffer),
@@ -71,13 +71,13 @@ mod tests {
             (0x0500_0000_0000_0000, [REFUSED, 5, 0, 0]),
         ] {
             let runs = case::Runs {
-                registers: (0..48).collect(),
+                registers: (0..44).collect(),
                 buffer: (1..9).collect(),
                 tables: vec![1],
             };
             let answer = answer_of(&case::Answer { number, runs });
             assert_eq!(answer.words, words, "{number:X}");
-            assert_eq!(answer.registers[10..], [0x2829_2A2B, 0x2C2D_2E2F]);
+            assert_eq!(answer.registers[10], 0x2829_2A2B);
             assert_eq!(answer.buffer, [0x0102_0304_0506_0708]);
         }
     }

@@ -7,8 +7,8 @@ use crate::random::Random;
 use reference::{Access, Registers, SLOTS};
 
 /// The lengths that are tried, the right one first, in bytes.
-pub const REGISTERS: [usize; 8] = [48, 0, 1, 44, 47, 49, 52, 64];
-pub const BUFFERS: [usize; 11] = [512, 0, 1, 8, 48, 256, 504, 511, 513, 520, 640];
+pub const REGISTERS: [usize; 8] = [44, 0, 1, 4, 43, 45, 48, 64];
+pub const BUFFERS: [usize; 11] = [512, 0, 1, 8, 44, 256, 504, 511, 513, 520, 640];
 /// The first two are right.
 pub const TABLES: [usize; 14] = [
     4096, 8192, 0, 1, 256, 2048, 4092, 4095, 4097, 6144, 65535, 65540, 69632, 131_072,
@@ -51,7 +51,6 @@ fn alone(to: &mut dyn PutCase, random: &mut Random) {
                     draw: random.bits(2),
                     index: random.below((lengths[2] / 4).max(1)) as u32,
                     setting: setting::accepted(random),
-                    edition: state::edition(random),
                 };
                 let call = arguments.of_call(random, kind);
                 to.put_case(case(random, call, registers, lengths));
@@ -104,10 +103,6 @@ fn any(random: &mut Random, kind: usize, lengths: [usize; 3]) -> Case {
         draw: random.pick(&[0, 1, 2, 3, 0, 3, 4, u32::MAX]),
         index: random.pick(&[0, words / 2, words.saturating_sub(1), words, u32::MAX]),
         setting: any_setting(random),
-        edition: match random.one_in(3) {
-            true => state::no_edition(random),
-            false => state::edition(random),
-        },
     };
     let call = arguments.of_call(random, kind);
     case(random, call, registers, lengths)
@@ -127,7 +122,6 @@ struct Arguments {
     draw: u32,
     index: u32,
     setting: (u32, u32),
-    edition: u32,
 }
 
 impl Arguments {
@@ -145,9 +139,7 @@ impl Arguments {
                 index: self.index,
                 value: random.bits(32),
             },
-            3 => Call::Start {
-                edition: self.edition,
-            },
+            3 => Call::Start,
             _ => {
                 let (number, value) = self.setting;
                 Call::Setting { number, value }

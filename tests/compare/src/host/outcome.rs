@@ -49,7 +49,6 @@ pub fn all() -> Vec<String> {
         all.extend([true, false].map(|changed| change(call, "registers", changed)));
     }
     all.extend([true, false].map(|changed| change(START, BUFFER, changed)));
-    all.extend([true, false].map(|changed| change(SERVED, TABLE_RUN, changed)));
     all.extend([RAW, START, SETTING].map(|call| beside(call, TABLE_RUN)));
     all.extend([beside(SETTING, BUFFER), high_bits_stay()]);
     all.push(fault::POSSIBLE.to_string());
@@ -87,11 +86,8 @@ fn of_accepted(call: &str, case: &Case, expected: &Answer) -> Vec<String> {
         _ if !before.tables.is_empty() => outcomes.push(beside(call, TABLE_RUN)),
         _ => {}
     }
-    if let Call::Served(_) = case.call {
-        outcomes.push(change(call, TABLE_RUN, before.tables != after.tables));
-    }
     match case.call {
-        Call::Start { .. } => outcomes.push(change(call, BUFFER, before.buffer != after.buffer)),
+        Call::Start => outcomes.push(change(call, BUFFER, before.buffer != after.buffer)),
         Call::Setting { .. } if !before.buffer.is_empty() => outcomes.push(beside(call, BUFFER)),
         Call::Served(_) if some_high_bits_stay(&before.buffer, &after.buffer) => {
             outcomes.push(high_bits_stay())

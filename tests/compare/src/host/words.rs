@@ -83,7 +83,7 @@ fn outcomes(request: &Request) -> Vec<String> {
 /// What the call over bytes has to answer and to leave where the call over words gives this answer.
 /// A refused start over words answers registers that are all 0; over bytes it leaves them.
 fn in_bytes(request: &Request, answer: &Answer) -> case::Answer {
-    let is_refused_start = matches!(request.call, Call::Start { .. }) && answer.words[0] == REFUSED;
+    let is_refused_start = matches!(request.call, Call::Start) && answer.words[0] == REFUSED;
     let registers = match is_refused_start {
         true => &request.registers,
         false => &answer.registers,
@@ -159,19 +159,16 @@ mod tests {
 
     #[test]
     fn an_accepted_start_leaves_the_bytes_of_the_answer_over_words() {
-        let start = Call::Start { edition: 2 };
-        let answer = answered(start, [DONE, 0, 0, 0], Registers::at_start(2));
+        let answer = answered(Call::Start, [DONE, 0, 0, 0], Registers::default());
         assert_eq!(answer.number, 0);
-        assert_eq!(answer.runs.registers[..44], [0; 44]);
-        assert_eq!(answer.runs.registers[44..], [0, 0, 0, 2]);
+        assert_eq!(answer.runs.registers, [0; 44]);
         assert_eq!(answer.runs.buffer, [0, 0, 0, 0, 0x3F, 0x80, 0, 0]);
     }
 
     #[test]
     fn a_refused_start_leaves_the_registers_and_a_refused_setting_those_of_the_answer() {
         let zero = Registers::default();
-        let start = Call::Start { edition: 1 };
-        let answer = answered(start, [REFUSED, 2, 0, 0], zero);
+        let answer = answered(Call::Start, [REFUSED, 2, 0, 0], zero);
         assert_eq!(answer.number, 2 << 56);
         assert_eq!(answer.runs.registers[..4], [0, 0, 0x12, 0x34]);
         let setting = Call::Setting {
@@ -180,6 +177,6 @@ mod tests {
         };
         let answer = answered(setting, [REFUSED, 5, 0, 0], zero);
         assert_eq!(answer.number, 5 << 56);
-        assert_eq!(answer.runs.registers, [0; 48]);
+        assert_eq!(answer.runs.registers, [0; 44]);
     }
 }

@@ -12,7 +12,6 @@ mod tables;
 pub mod walk;
 mod write;
 
-use crate::cases::story;
 use crate::protocol::{Answer, Call, Request};
 use crate::{fault, read_back, witness};
 use reference::Registers;
@@ -39,7 +38,6 @@ pub fn all() -> Vec<String> {
         tables::all(),
         witness::all(),
         read_back::all(),
-        story::all(),
     ]
     .concat();
     all.push(fault::POSSIBLE.to_string());
@@ -51,14 +49,17 @@ pub fn of(request: &Request, runs: Runs, expected: &Answer) -> Vec<String> {
     let buffer = &request.buffer;
     let answered = expected.words[1];
     match request.call {
-        Call::Start { edition } => start::of(registers, buffer, edition, answered),
+        Call::Start => start::of(registers, buffer, answered),
         Call::Raw(access) => raw::of(registers, buffer, access, answered),
         Call::Write { number, value } => write::of(registers, buffer, (number, value), answered),
         Call::Read { number } => read::of(registers, buffer, number, answered),
         Call::Walk { page_id, vpn } => walk::of(runs.before, page_id, vpn),
-        Call::Served(access) => {
-            served::of(&Served::new((registers, buffer), runs, access, expected))
-        }
+        Call::Served(access) => served::of(&Served::new(
+            (registers, buffer),
+            runs.before,
+            access,
+            expected,
+        )),
         Call::Store { index, value } => {
             store::of(registers, buffer, runs, (index, value), expected)
         }
@@ -76,9 +77,12 @@ pub fn in_sequence(request: &Request, runs: Runs, expected: &Answer) -> Vec<Stri
     let registers = Registers::from_words(request.registers);
     let buffer = &request.buffer;
     match request.call {
-        Call::Served(access) => {
-            served::in_sequence(&Served::new((registers, buffer), runs, access, expected))
-        }
+        Call::Served(access) => served::in_sequence(&Served::new(
+            (registers, buffer),
+            runs.before,
+            access,
+            expected,
+        )),
         Call::Store { index, value } => {
             store::in_sequence(registers, buffer, runs, (index, value), expected)
         }

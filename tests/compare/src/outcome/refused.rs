@@ -1,9 +1,6 @@
 //! Outcomes of refusals: every set of grounds that can come together, and each single ground.
 
-use reference::{
-    check_buffer, check_edition, check_registers, fits, Refusal, Registers, EDITIONS, FIELD_BITS,
-    FIELD_NAMES,
-};
+use reference::{check_buffer, check_registers, fits, Refusal, Registers, FIELD_BITS, FIELD_NAMES};
 
 /// The wrong buffer lengths that have to be tried.
 pub const WRONG_LENGTHS: [usize; 5] = [0, 1, 63, 65, 80];
@@ -62,60 +59,35 @@ pub fn refused_on(call: &str, grounds: &[&str]) -> String {
 /// Outcomes of the register fields of a call that takes registers.
 pub fn all_fields(call: &str) -> Vec<String> {
     let mut all = vec![several_fields(call)];
-    for (name, bits) in widths() {
+    for (name, bits) in FIELD_NAMES.iter().zip(FIELD_BITS) {
         all.push(largest(call, name));
         if bits < 32 {
             all.push(first_too_large(call, name));
         }
     }
-    all.extend(EDITIONS.map(|edition| edition_taken(call, edition)));
-    all.extend(all_no_editions(call));
     all
-}
-
-/// The fields but the edition, which does not go by its bits.
-fn widths() -> impl Iterator<Item = (&'static str, u32)> {
-    FIELD_NAMES.into_iter().zip(FIELD_BITS).take(10 + 1)
-}
-
-/// What is no edition, by kind.
-pub fn all_no_editions(call: &str) -> Vec<String> {
-    [0, 3, u32::MAX]
-        .map(|edition| no_edition(call, edition))
-        .to_vec()
-}
-
-pub fn no_edition(call: &str, edition: u32) -> String {
-    match edition {
-        0 | 3 => format!("{call} refused 1, edition {edition} alone"),
-        _ => format!("{call} refused 1, another edition alone"),
-    }
-}
-
-pub fn edition_taken(call: &str, edition: u32) -> String {
-    format!("{call} accepted, edition {edition}")
 }
 
 /// Largest values count in accepted calls, too large ones in calls refused for them alone.
 pub fn of_fields(call: &str, registers: Registers, grounds: &[u32]) -> Vec<String> {
-    let fields = || registers.to_words().into_iter().zip(widths());
-    let edition = registers.edition;
+    let fields = || {
+        let words = registers.to_words().into_iter();
+        words.zip(FIELD_BITS).zip(FIELD_NAMES)
+    };
     if grounds.is_empty() {
         return fields()
-            .filter(|(word, (_, bits))| u64::from(*word) + 1 == 1u64 << bits)
-            .map(|(_, (name, _))| largest(call, name))
-            .chain([edition_taken(call, edition)])
+            .filter(|((word, bits), _)| u64::from(*word) + 1 == 1u64 << bits)
+            .map(|(_, name)| largest(call, name))
             .collect();
     }
-    let too_large: Vec<(u32, (&str, u32))> = fields()
-        .filter(|(word, (_, bits))| !fits(*word, *bits))
+    let too_large: Vec<((u32, u32), &str)> = fields()
+        .filter(|((word, bits), _)| !fits(*word, *bits))
         .collect();
-    match (&too_large[..], check_edition(edition).is_ok()) {
-        (&[(word, (name, bits))], true) if word == 1 << bits && grounds == [1] => {
+    match too_large[..] {
+        [((word, bits), name)] if word == 1 << bits && grounds == [1] => {
             vec![first_too_large(call, name)]
         }
-        ([], false) if grounds == [1] => vec![no_edition(call, edition)],
-        ([_, _, ..], _) | ([_], false) => vec![several_fields(call)],
+        [_, _, ..] => vec![several_fields(call)],
         _ => Vec::new(),
     }
 }
@@ -181,14 +153,14 @@ pub fn draw_of(call: &str, draw: u32) -> String {
 
 /// Outcomes of a register number that is none.
 pub fn all_unknown_numbers(call: &str) -> Vec<String> {
-    [10, 11, 12, u32::MAX]
+    [10, 11, u32::MAX]
         .map(|number| unknown_number(call, number))
         .to_vec()
 }
 
 pub fn unknown_number(call: &str, number: u32) -> String {
     match number {
-        10 | 11 | u32::MAX => format!("{call} refused 7, number {number}"),
+        10 | u32::MAX => format!("{call} refused 7, number {number}"),
         _ => format!("{call} refused 7, another unknown number"),
     }
 }

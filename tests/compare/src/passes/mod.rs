@@ -31,7 +31,7 @@ pub fn compare(program: &str, seed: u64, number: usize) -> Result<bool, String> 
 }
 
 /// The first passes find no table run.
-pub fn put(to: &mut dyn PutJudged, seed: u64, number: usize) {
+fn put(to: &mut dyn PutJudged, seed: u64, number: usize) {
     let mut random = Random::new(seed);
     refusals::without_run(to, &mut random);
     refusals::put(to, &mut random);

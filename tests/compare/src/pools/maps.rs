@@ -174,7 +174,7 @@ fn grounds_together(comparison: &mut Comparison, random: &mut Random) {
 }
 
 /// Every register edge with nothing else wrong.
-pub fn register_edges(comparison: &mut dyn Put, random: &mut Random) {
+fn register_edges(comparison: &mut Comparison, random: &mut Random) {
     let mut tables = vec![0; 1024];
     for registers in state::register_edges(random) {
         for _ in 0..4 {

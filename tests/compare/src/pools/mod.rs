@@ -9,7 +9,7 @@ pub mod chain;
 mod comparison;
 mod fill;
 pub mod history;
-pub mod maps;
+mod maps;
 pub mod outcome;
 pub mod pooled;
 mod sequence;

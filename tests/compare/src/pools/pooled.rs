@@ -29,15 +29,13 @@ impl Pooled {
         words: Vec<u32>,
     ) -> Pooled {
         let buffer = state::buffer(random, SLOTS);
-        let edition = state::edition(random);
-        let call = Call::Start { edition };
-        let start = Request::without_run(call, state::registers(random), buffer);
+        let start = Request::without_run(Call::Start, state::registers(random), buffer);
         let started = to.put_judged(Judges::default(), start);
         Pooled {
             chain,
             registers: Registers::from_words(started.registers),
             buffer: started.buffer,
-            witnesses: Witnesses::begin(words, edition),
+            witnesses: Witnesses::begin(words),
             run_is_kept: false,
         }
     }

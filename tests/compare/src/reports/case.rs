@@ -86,12 +86,11 @@ impl Case {
         self
     }
 
-    /// What the second program says of it in this edition.
-    pub fn report(&self, edition: u32) -> Report {
+    pub fn report(&self) -> Report {
         match (&self.trace, self.count_by) {
             (None, _) => Report::Unread,
-            (Some(trace), CountBy::Walks) => Report::of::<ByWalks>(edition, &trace[..]),
-            (Some(trace), CountBy::Counts) => Report::of::<ByCounts>(edition, &trace[..]),
+            (Some(trace), CountBy::Walks) => Report::of::<ByWalks>(&trace[..]),
+            (Some(trace), CountBy::Counts) => Report::of::<ByCounts>(&trace[..]),
         }
     }
 }

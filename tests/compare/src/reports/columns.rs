@@ -13,7 +13,7 @@ pub fn all() -> Vec<String> {
 /// The outcomes at each boundary of the trace.
 pub fn of(trace: &[u8]) -> Vec<(String, bool)> {
     let (records, _) = trace.as_chunks();
-    let mut replay = Replay::<ByCounts>::start(1);
+    let mut replay = Replay::<ByCounts>::start();
     let mut last = replay.totals.clone();
     let mut blocks = Vec::new();
     for block in records.chunks(BY_REPORT.block) {

@@ -16,7 +16,6 @@ const MOST_PRINTED: usize = 10;
 
 pub struct Comparison {
     program: PathBuf,
-    edition: u32,
     folder: Folder,
     tally: Tally,
     calls: usize,
@@ -27,16 +26,15 @@ pub struct Comparison {
 }
 
 impl Comparison {
-    pub fn new(program: &str, edition: u32) -> Result<Comparison, String> {
+    pub fn new(program: &str) -> Result<Comparison, String> {
         // The program is called from another folder.
         let program = Path::new(program)
             .canonicalize()
             .map_err(|error| format!("{program} does not start: {error}"))?;
         Ok(Comparison {
             program,
-            edition,
             folder: Folder::new("compare-reports")?,
-            tally: Tally::expecting(outcome::all(edition)),
+            tally: Tally::expecting(outcome::all()),
             calls: 0,
             by_walks: 0,
             by_counts: 0,
@@ -78,7 +76,7 @@ impl Comparison {
         cases: Vec<Case>,
         remark: Option<&str>,
     ) -> Result<(), String> {
-        let reports: Vec<Report> = cases.iter().map(|case| case.report(self.edition)).collect();
+        let reports: Vec<Report> = cases.iter().map(Case::report).collect();
         let texts: Vec<Vec<u8>> = reports.iter().enumerate().map(text).collect();
         let expected = texts.concat();
         let got = self.run(command, &cases, expected.len())?;
@@ -151,12 +149,12 @@ impl Comparison {
             (None, _) => self.unread += 1,
             (Some(trace), CountBy::Walks) => {
                 self.by_walks += 1;
-                let is_the_same = Report::of::<ByCounts>(self.edition, &trace[..]) == *report;
+                let is_the_same = Report::of::<ByCounts>(&trace[..]) == *report;
                 self.tally.add(outcome::BOTH_COUNTS, is_the_same);
             }
             (Some(_), CountBy::Counts) => self.by_counts += 1,
         }
-        for outcome in outcome::of_file(number, (case, self.edition), report) {
+        for outcome in outcome::of_file(number, case, report) {
             self.tally.add(&outcome, agreed);
         }
         for (outcome, holds) in &case.outcomes {

@@ -22,16 +22,9 @@ use crate::traces;
 use case::{Case, CountBy};
 use comparison::Comparison;
 use reference::trace::RECORD_BYTES;
-use reference::MARKING;
 
-/// How many files are put to the program of an edition in all, about. The totals are the same in
-/// both.
-pub fn files(edition: u32) -> usize {
-    match edition {
-        MARKING => 300,
-        _ => 830,
-    }
-}
+/// How many files are put in all, about.
+pub const FILES: usize = 830;
 
 /// A call has up to so many files, and one call has so many that their numbers have three digits.
 const FILES_IN_A_CALL: usize = 12;
@@ -41,9 +34,9 @@ const FILES_IN_THE_LONGEST_CALL: usize = 110;
 const FEW_RECORDS: usize = 220;
 const MANY_RECORDS: usize = 2500;
 
-pub fn compare(program: &str, edition: u32, seed: u64, files: usize) -> Result<bool, String> {
+pub fn compare(program: &str, seed: u64, files: usize) -> Result<bool, String> {
     let mut random = Random::new(seed);
-    let mut comparison = Comparison::new(program, edition)?;
+    let mut comparison = Comparison::new(program)?;
     edges::put(&mut comparison, &mut random)?;
     names::put(&mut comparison, &mut random)?;
     limit::put(&mut comparison, &mut random)?;

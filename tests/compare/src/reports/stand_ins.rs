@@ -74,8 +74,8 @@ impl StandIn {
     fn text(fault: Fault, cases: &[Case]) -> Vec<u8> {
         let mut stand_in = StandIn {
             fault,
-            kept: Kept::begin(&Unit::start(1)),
-            replay: Replay::start(1),
+            kept: Kept::begin(&Unit::start()),
+            replay: Replay::start(),
             found: Vec::new(),
             cut: Vec::new(),
         };
@@ -102,7 +102,7 @@ impl StandIn {
     }
 
     fn begin_file(&mut self) {
-        let last = std::mem::replace(&mut self.replay, Replay::start(1));
+        let last = std::mem::replace(&mut self.replay, Replay::start());
         match self.fault {
             Fault::Leaks(part) => part.take(&mut self.replay.unit, &last.unit),
             Fault::LeaksTotals => self.replay.totals = last.totals,
@@ -136,7 +136,7 @@ impl StandIn {
         let replay = &mut self.replay;
         match self.fault {
             Fault::Loses(loss) => self.kept.lose(&mut replay.unit, loss),
-            Fault::BeginsAnew => replay.unit = Unit::start(1),
+            Fault::BeginsAnew => replay.unit = Unit::start(),
             Fault::LosesTotals(Lost::ToStart) => replay.totals.fill(Totals::default()),
             Fault::LosesTotals(Lost::ToBlock) => replay.totals = self.found.clone(),
             Fault::LosesColumn(column) => lose_column(replay, column),
@@ -225,7 +225,7 @@ fn every_faulty_program_shows_and_the_right_one_does_not() {
     let calls: Vec<(Vec<Case>, Vec<u8>)> = calls
         .into_iter()
         .map(|cases| {
-            let text = text_by(&cases, |case| case.report(1));
+            let text = text_by(&cases, Case::report);
             (cases, text)
         })
         .collect();

@@ -1,14 +1,14 @@
 //! Programs that stand in for the program `probe`: a right one, and ones with a fault in their
-//! passes, in their MUPS/16 unit, or in their editions and marks.
+//! passes or in their MUPS/16 unit.
 //!
-//! These are written by themselves, so that the right one shows that a fault is all that the others
+//! Both are written by themselves, so that the right one shows that a fault is all that the others
 //! have.
 
 mod faults;
 #[cfg(test)]
 pub mod trial;
 
-use crate::marks;
+use crate::expected;
 use crate::mups16::stand_ins as mups16;
 use crate::passes::stand_ins as passes;
 use crate::protocol::{Answer, Call, PoolCall, Request};
@@ -20,14 +20,12 @@ use std::rc::Rc;
 pub struct Faults {
     pub passes: passes::Fault,
     pub mups16: mups16::Fault,
-    pub marks: marks::Fault,
 }
 
 impl Faults {
     pub const NONE: Faults = Faults {
         passes: passes::Fault::None,
         mups16: mups16::Fault::None,
-        marks: marks::Fault::None,
     };
 
     /// Each fault of passes alone.
@@ -46,19 +44,10 @@ impl Faults {
         })
     }
 
-    /// Each fault of editions and marks alone.
-    pub fn of_marks() -> impl Iterator<Item = Faults> {
-        marks::ALL.iter().map(|&marks| Faults {
-            marks,
-            ..Faults::NONE
-        })
-    }
-
     pub fn name(self) -> String {
-        match (self.passes, self.mups16) {
-            (passes::Fault::None, mups16::Fault::None) => format!("{:?}", self.marks),
-            (passes::Fault::None, mups16) => format!("{mups16:?}"),
-            (passes, _) => format!("{passes:?}"),
+        match self.passes {
+            passes::Fault::None => format!("{:?}", self.mups16),
+            passes => format!("{passes:?}"),
         }
     }
 }
@@ -85,16 +74,15 @@ impl StandIn {
         if !request.tables.is_empty() {
             self.tables = Rc::new(request.tables.clone());
         }
-        let marks = self.faults.marks;
         match request.call {
-            Call::OnPool(PoolCall::Collect { id }) if marks == marks::Fault::None => {
+            Call::OnPool(PoolCall::Collect { id }) => {
                 passes::answer(self.faults.passes, request, &mut self.tables, id)
             }
             Call::Mups16(call) => {
                 let (tables, memory) = (&mut self.tables, &mut self.memory);
                 mups16::answer(self.faults.mups16, request, call, tables, memory)
             }
-            _ => marks::answer(marks, request, &mut self.tables),
+            _ => expected::answer(request, &mut self.tables),
         }
     }
 }

@@ -1,7 +1,6 @@
 //! Whole traces, each run by a process of its own and compared byte for byte.
 
 mod across;
-pub mod marks;
 mod outcome;
 pub mod record;
 pub mod script;
@@ -15,16 +14,9 @@ use crate::program::Program;
 use crate::random::Random;
 use crate::tally::Tally;
 use outcome::{whole, Before};
-use reference::trace::{text_of, Line, Unit, RECORD_BYTES};
-use reference::MARKING;
+use reference::trace::{text_of, Unit, RECORD_BYTES};
 
-/// How many traces are put to the program of an edition. The lines are the same in both.
-pub fn traces(edition: u32) -> usize {
-    match edition {
-        MARKING => 600,
-        _ => 3000,
-    }
-}
+pub const TRACES: usize = 3000;
 
 const MOST_PRINTED: usize = 10;
 const AS_A_WHOLE: &str = "whole output the same, and the program ends well";
@@ -44,9 +36,9 @@ const IN_PIECES: &str = "trace in pieces of other lengths than a record's";
 /// Random traces are shorter than this.
 const MOST_RECORDS: usize = 450;
 
-pub fn compare(program: &str, edition: u32, seed: u64, traces: usize) -> Result<bool, String> {
+pub fn compare(program: &str, seed: u64, traces: usize) -> Result<bool, String> {
     let mut random = Random::new(seed);
-    let mut comparison = Comparison::new(program, edition);
+    let mut comparison = Comparison::new(program);
     for trace in stops::traces(&mut random) {
         comparison.put(&trace)?;
     }
@@ -77,7 +69,6 @@ pub fn compare(program: &str, edition: u32, seed: u64, traces: usize) -> Result<
 
 struct Comparison<'a> {
     program: &'a str,
-    edition: u32,
     tally: Tally,
     traces: usize,
     records: usize,
@@ -85,13 +76,12 @@ struct Comparison<'a> {
 }
 
 impl Comparison<'_> {
-    fn new(program: &str, edition: u32) -> Comparison<'_> {
+    fn new(program: &str) -> Comparison<'_> {
         let of_runs = [AS_A_WHOLE, IN_PIECES, fault::POSSIBLE].map(String::from);
         let outcomes = outcome::all().into_iter().chain(of_runs);
-        let outcomes = outcomes.chain(across::all()).chain(marks::all(edition));
+        let outcomes = outcomes.chain(across::all());
         Comparison {
             program,
-            edition,
             tally: Tally::expecting(outcomes),
             traces: 0,
             records: 0,
@@ -133,7 +123,7 @@ impl Comparison<'_> {
 
     /// What both programs print. A program that can't be run, or ends badly, ends the comparison.
     fn both_texts(&self, trace: &[u8], pieces: Vec<Vec<u8>>) -> Result<(Vec<u8>, Vec<u8>), String> {
-        let expected = text_of(self.edition, trace);
+        let expected = text_of(trace);
         let got = Program::output_of(self.program, pieces, expected.len())
             .map_err(|problem| format!("trace {}: {problem}", self.traces))?;
         Ok((expected, got))
@@ -157,16 +147,13 @@ impl Comparison<'_> {
 
     fn judge_records(&mut self, trace: &[u8], expected: &[u8], got: &[u8]) {
         let (records, _) = trace.as_chunks();
-        let mut unit = Unit::start(self.edition);
+        let mut unit = Unit::start();
         let mut lines = Lines { expected, got };
         for (number, &record) in records.iter().enumerate() {
             let before = Before::of(number, record, &unit);
-            let reply = unit.reply(record);
+            let line = unit.step(record);
             let agreed = lines.next_agrees();
-            for outcome in before.outcomes(Line::of(reply), &unit) {
-                self.tally.add(&outcome, agreed);
-            }
-            if let Some(outcome) = marks::of(reply) {
+            for outcome in before.outcomes(line, &unit) {
                 self.tally.add(&outcome, agreed);
             }
         }

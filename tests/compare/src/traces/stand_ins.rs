@@ -55,8 +55,8 @@ impl StandIn {
     fn text(fault: Fault, pieces: &[Vec<u8>]) -> Vec<u8> {
         let mut stand_in = StandIn {
             fault,
-            kept: Kept::begin(&Unit::start(1)),
-            unit: Unit::start(1),
+            kept: Kept::begin(&Unit::start()),
+            unit: Unit::start(),
             number: 0,
             text: Vec::new(),
         };
@@ -101,11 +101,11 @@ impl StandIn {
         let unit = &mut self.unit;
         match self.fault {
             Fault::Loses(loss) => self.kept.lose(unit, loss),
-            Fault::BeginsAnew => *unit = Unit::start(1),
+            Fault::BeginsAnew => *unit = Unit::start(),
             Fault::NumbersFromZero => self.number = 0,
             Fault::NumbersFromThousandMore => self.number += 1000,
             Fault::EachBlockIsATrace => {
-                *unit = Unit::start(1);
+                *unit = Unit::start();
                 self.number = 0;
             }
             _ => {}
@@ -140,7 +140,7 @@ fn every_faulty_program_shows_and_the_right_one_does_not() {
     let cases = across::cases(&mut Random::new(1)).into_iter();
     let cases: Vec<(Case, Vec<u8>)> = cases
         .map(|case| {
-            let text = text_of(1, &case.trace);
+            let text = text_of(&case.trace);
             (case, text)
         })
         .collect();

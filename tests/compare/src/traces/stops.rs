@@ -51,7 +51,7 @@ mod tests {
     fn every_value_of_a_walk_is_among_them_whatever_the_seed() {
         for seed in 0..5 {
             let last_line = |trace: Vec<u8>| {
-                let text = String::from_utf8(text_of(1, &trace)).expect("the text is plain");
+                let text = String::from_utf8(text_of(&trace)).expect("the text is plain");
                 text.lines().last().unwrap_or_default().to_string()
             };
             let traces = traces(&mut Random::new(seed)).into_iter();

@@ -12,7 +12,7 @@ impl Written {
     pub fn begin() -> Written {
         Written {
             bytes: Vec::new(),
-            unit: Unit::start(1),
+            unit: Unit::start(),
         }
     }
 

@@ -9,7 +9,6 @@ use reference::mups16::{self, Mapping, State};
 use reference::*;
 use std::io::{self, Error, Read, Write};
 
-const EDITION: u32 = 1;
 const TABLE_WORDS: usize = 16384;
 const OWN_ROOT: u32 = 5;
 const OWN_DIRECTORY: u32 = 512;
@@ -54,7 +53,7 @@ impl Unit {
     /// Every slot holds one of the first 64 pages.
     fn prepared() -> Unit {
         let mut buffer = [0; SLOTS];
-        let (_, registers) = start(&mut buffer, EDITION);
+        let (_, registers) = start(&mut buffer);
         let mut unit = Unit {
             registers,
             buffer,
@@ -85,7 +84,7 @@ impl Unit {
 
     fn serve(&mut self, address: u32, draw: u32) -> u64 {
         let access = user_read(address, draw);
-        let reply = served_access(self.registers, &mut self.buffer, &mut self.words, access);
+        let reply = served_access(self.registers, &mut self.buffer, &self.words, access);
         self.take(reply)
     }
 

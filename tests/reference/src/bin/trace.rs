@@ -1,5 +1,8 @@
-//! Runs the trace on standard input and writes its lines to standard output, in edition 1.
+//! Runs the trace on standard input and writes its lines to standard output.
 
-fn main() -> std::io::Result<()> {
-    reference::trace::main(1)
+use std::io::{self, BufWriter};
+
+fn main() -> io::Result<()> {
+    let output = BufWriter::with_capacity(65536, io::stdout().lock());
+    reference::trace::run(io::stdin().lock(), output)
 }

@@ -97,7 +97,11 @@ pub fn check_tree(words: &[u32], pool: &Pool, id: u32, leaves: &[Decided]) -> Re
 
 pub fn done(emptied: u32, given: u32, registers: Registers) -> Pass {
     Pass {
-        reply: Reply::unmarked(Outcome::Done(emptied), 0, registers),
+        reply: Reply {
+            outcome: Outcome::Done(emptied),
+            loads: 0,
+            registers,
+        },
         given,
     }
 }

@@ -48,9 +48,10 @@ pub fn map(
     let checked = check(registers, buffer, words, pool, index);
     match checked.and_then(|()| take_lowest(pool)) {
         Ok(pfn) => Mapping {
-            reply: {
-                let emptied = store(buffer, words, index, mapped_word(leaf, pfn));
-                Reply::unmarked(Outcome::Done(emptied), 0, registers)
+            reply: Reply {
+                outcome: Outcome::Done(store(buffer, words, index, mapped_word(leaf, pfn))),
+                loads: 0,
+                registers,
             },
             pfn,
         },

@@ -1,6 +1,6 @@
 //! The report over trace files: exact totals for each identification.
 //!
-//! In edition 2 "the report counts a mark as a store". It "replays the files its arguments name, each from the start state and zero tables".
+//! It "replays the files its arguments name, each from the start state and zero tables".
 
 mod by_counts;
 mod by_walks;
@@ -18,7 +18,7 @@ use crate::refusal::Refusal;
 use crate::trace::each_record;
 use std::ffi::OsStr;
 use std::fs::File;
-use std::io::{self, BufWriter, Read, Write};
+use std::io::{self, Read, Write};
 
 /// What the report says of one file.
 #[derive(Clone, Debug, PartialEq, Eq)]
@@ -29,36 +29,29 @@ pub enum Report {
     Unread,
 }
 
-/// The report over the files that the program's arguments name, on standard output.
-pub fn main(edition: u32) -> io::Result<()> {
-    let output = BufWriter::with_capacity(65536, io::stdout().lock());
-    run(edition, std::env::args_os().skip(1), output)
-}
-
 /// The reports of the named files, one after another. A file's number is its place among the names.
 pub fn run<N: AsRef<OsStr>>(
-    edition: u32,
     names: impl IntoIterator<Item = N>,
     mut output: impl Write,
 ) -> io::Result<()> {
     for (number, name) in names.into_iter().enumerate() {
-        Report::of_file::<ByCounts>(edition, name.as_ref()).write(number, &mut output)?;
+        Report::of_file::<ByCounts>(name.as_ref()).write(number, &mut output)?;
     }
     output.flush()
 }
 
 impl Report {
     /// "Unread" where the file "can't be read": where it can't be opened, or a read fails.
-    pub fn of_file<L: LeafWords>(edition: u32, name: &OsStr) -> Report {
+    pub fn of_file<L: LeafWords>(name: &OsStr) -> Report {
         match File::open(name) {
-            Ok(file) => Report::of::<L>(edition, file),
+            Ok(file) => Report::of::<L>(file),
             Err(_) => Report::Unread,
         }
     }
 
     /// A last piece of 1 to 7 bytes is a refused record, and books nothing.
-    pub fn of<L: LeafWords>(edition: u32, input: impl Read) -> Report {
-        let mut replay = Replay::<L>::start(edition);
+    pub fn of<L: LeafWords>(input: impl Read) -> Report {
+        let mut replay = Replay::<L>::start();
         match each_record(input, |record| Ok(replay.step(record)?)) {
             Ok(_) => Report::Totals(replay.totals),
             Err(Stop::Refused(refusal)) => Report::Refused(refusal),

@@ -1,7 +1,7 @@
 //! The text of a record's line.
 
 use crate::refusal::Refusal;
-use crate::reply::{Outcome, Reply};
+use crate::reply::Outcome;
 use std::io::{self, Write};
 
 #[derive(Clone, Copy, Debug, PartialEq, Eq)]
@@ -11,14 +11,6 @@ pub struct Line {
 }
 
 impl Line {
-    /// A mark stands on no line.
-    pub fn of(reply: Reply) -> Line {
-        Line {
-            outcome: reply.outcome,
-            loads: reply.loads,
-        }
-    }
-
     pub fn refused(refusal: Refusal) -> Line {
         Line {
             outcome: Outcome::Refused(refusal),

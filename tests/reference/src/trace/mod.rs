@@ -1,4 +1,4 @@
-//! The trace program of either edition: records from an input, a line for each to an output.
+//! The trace program: records from an input, a line for each to an output.
 
 mod line;
 mod record;
@@ -9,21 +9,15 @@ pub use record::{call_of, KINDS, RECORD_BYTES};
 pub use unit::{Unit, TABLE_WORDS};
 
 use crate::refusal::Refusal;
-use std::io::{self, BufWriter, ErrorKind, Read, Write};
+use std::io::{self, ErrorKind, Read, Write};
 
 /// Records are read in blocks of this many bytes.
 const BLOCK: usize = 65536;
 
-/// The trace on standard input, its lines on standard output.
-pub fn main(edition: u32) -> io::Result<()> {
-    let output = BufWriter::with_capacity(BLOCK, io::stdout().lock());
-    run(edition, io::stdin().lock(), output)
-}
-
 /// Reads the input to its end. "A last piece of 1 to 7 bytes is one refused record; empty input
 /// prints nothing."
-pub fn run(edition: u32, input: impl Read, mut output: impl Write) -> io::Result<()> {
-    let mut unit = Unit::start(edition);
+pub fn run(input: impl Read, mut output: impl Write) -> io::Result<()> {
+    let mut unit = Unit::start();
     let mut number = 0;
     let left = each_record(input, |record| {
         number += 1;
@@ -60,8 +54,8 @@ pub fn each_record<E: From<io::Error>>(
 }
 
 /// The lines of a whole trace.
-pub fn text_of(edition: u32, trace: &[u8]) -> Vec<u8> {
+pub fn text_of(trace: &[u8]) -> Vec<u8> {
     let mut text = Vec::new();
-    run(edition, trace, &mut text).expect("bytes in memory are read and written without fail");
+    run(trace, &mut text).expect("bytes in memory are read and written without fail");
     text
 }

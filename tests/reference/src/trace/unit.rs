@@ -22,9 +22,9 @@ pub struct Unit {
 }
 
 impl Unit {
-    pub fn start(edition: u32) -> Unit {
+    pub fn start() -> Unit {
         let mut buffer = [0; SLOTS];
-        let (_, registers) = start(&mut buffer, edition);
+        let (_, registers) = start(&mut buffer);
         Unit {
             registers,
             buffer,
@@ -34,18 +34,13 @@ impl Unit {
 
     /// The line of one record; "nothing stops at a refusal".
     pub fn step(&mut self, record: [u8; RECORD_BYTES]) -> Line {
-        Line::of(self.reply(record))
-    }
-
-    /// The whole reply to one record.
-    pub fn reply(&mut self, record: [u8; RECORD_BYTES]) -> Reply {
         match call_of(record) {
             Ok(call) => self.make(call),
-            Err(refusal) => Reply::refused(refusal, self.registers),
+            Err(refusal) => Line::refused(refusal),
         }
     }
 
-    fn make(&mut self, call: GuardedCall) -> Reply {
+    fn make(&mut self, call: GuardedCall) -> Line {
         let (registers, buffer, words) = (self.registers, &mut self.buffer, &mut self.words);
         let reply = match call {
             GuardedCall::Access(access) => served_access(registers, buffer, words, access),
@@ -54,7 +49,12 @@ impl Unit {
             }
             GuardedCall::Setting { number, value } => guarded_setting(registers, number, value),
         };
-        self.registers = reply.registers;
-        reply
+        let Reply {
+            outcome,
+            loads,
+            registers,
+        } = reply;
+        self.registers = registers;
+        Line { outcome, loads }
     }
 }

@@ -22,16 +22,11 @@ pub struct Unit {
 }
 
 impl Unit {
-    /// Of edition 1.
-    pub fn new() -> Unit {
-        Unit::of_edition(1)
-    }
-
     /// Enabled under ID after a start. For the pages below 1,024, root ID names directory 1 and
     /// that table 1; the global root names directory 4 and that table 3.
-    pub fn of_edition(edition: u32) -> Unit {
+    pub fn new() -> Unit {
         let mut buffer = vec![0; SLOTS];
-        let (done, registers) = start(&mut buffer, edition);
+        let (done, registers) = start(&mut buffer);
         assert_eq!(done, Ok(()));
         let mut words = vec![0; 4096];
         words[ID as usize] = PRESENT | 1;
@@ -60,16 +55,9 @@ impl Unit {
     }
 
     pub fn access(&mut self, access: Access) -> (Outcome, u32) {
-        let reply = self.serve(access);
-        (reply.outcome, reply.loads)
-    }
-
-    /// The whole reply to an access.
-    pub fn serve(&mut self, access: Access) -> Reply {
-        let (buffer, words) = (&mut self.buffer, &mut self.words);
-        let reply = served_access(self.registers, buffer, words, access);
+        let reply = served_access(self.registers, &mut self.buffer, &self.words, access);
         self.registers = reply.registers;
-        reply
+        (reply.outcome, reply.loads)
     }
 
     pub fn store(&mut self, index: usize, value: u32) -> Outcome {

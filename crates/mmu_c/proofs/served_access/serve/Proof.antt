@@ -1,8 +1,7 @@
-use mathlib.Core.Path.{◌∙◌}
 use native.Mathlib.Omega.{arith}
 use Rattle.access.proofs.AccessLaws.{context-lt}
-use Rattle.mmu.proofs.ServedLaws.{page-lt, serve-tried, serve-final}
-use Rattle.mmu_c.proofs.ServedLaws.{miss-accepted, loaded}
+use Rattle.mmu.proofs.ServedLaws.{page-lt}
+use Rattle.mmu_c.proofs.ServedLaws.{stands, final, miss-accepted, loaded}
 use borrow.Author.Rules.{rules}
 use Rattle.mmu_c.proofs.served_access.serve.Statement.{statement}
 use Rattle.mmu_c.proofs.served_access.serve.Tie as tie
@@ -13,7 +12,7 @@ tried-reply-requires c κs = search rules
 returns : tie.Need-returns
 returns c =
     let start = c.before.before.before.before.before.before in
-    serve-tried _ _ _ start.requires.3 _ c.before.if1.true c.tried-reply.ensures
+    stands _ _ _ _ _ _ start.requires.3 start.requires.4 start.requires.1 _ c.before.if1.true c.tried-reply.ensures
 
 vpn-of-requires : tie.Need-vpn-of-requires
 vpn-of-requires c κs = search rules
@@ -40,12 +39,13 @@ returns-2 c =
     let page = c.before.before.before.before.before.vpn-of.ensures in
     let walk = c.before.before.before.before.walk-page.ensures in
     let value = c.before.walk-fault.ensures in
-    serve-final _ _ _ start.requires.3 _ _ _ missed page walk _ c.before.before.match.keys2 value c.answered.ensures
+    final _ _ _ _ _ _ start.requires.3 start.requires.4 start.requires.1 _ _ _ missed page walk _ c.before.before.match.keys2 value
+    c.answered.ensures
 
 load-and-retry-requires : tie.Need-load-and-retry-requires
 load-and-retry-requires c κs =
     let start = c.before.before.before.before.before.before.before.before.before.before.before.before in
-    miss-accepted _ _ _ _ _ start.requires.3 start.requires.4 start.requires.0
+    miss-accepted _ _ start.args.tables.now _ _ _ start.requires.3 start.requires.4 start.requires.1 start.requires.0
 
 put-back-requires : tie.Need-put-back-requires
 put-back-requires c κs = search rules
@@ -58,17 +58,14 @@ same-length-2 c = search rules
 
 returns-3 : tie.Need-returns-3
 returns-3 c =
-    let d = c.before.before.before.before.before.before.before.before in
-    let e = d.before.before.before.before.before.before.before.before in
-    let start = e.before.before.before.before in
-    let within = c.before.before.before.before.before.slice-known3.given in
-    loaded _ _ _ _ _ start.requires.3 start.requires.4 start.requires.0 _ _ _ _
-    d.before.before.before.before.before.before.before.if1.false
-    d.before.before.before.before.before.before.vpn-of.ensures d.before.before.before.before.before.walk-page.ensures
-    start.requires.1 _ _ _ d.before.before.found.given.1
-    c.before.before.before.before.before.before.before.load-and-retry.ensures
-    (c.before.before.before.before.before.before.before.load-and-retry.auto.1.1.0 ∙ start.requires.4.long)
-    (λ i l. omega (arith, within i)) c.before.before.put-back.ensures
+    let start = c.before.before.before.before.before.before.before.before.before.before.before.before.before.before.before.before.before.before.before.before in
+    let missed = c.before.before.before.before.before.before.before.before.before.before.before.before.before.before.before.if1.false in
+    let page = c.before.before.before.before.before.before.before.before.before.before.before.before.before.before.vpn-of.ensures in
+    let walk = c.before.before.before.before.before.before.before.before.before.before.before.before.before.walk-page.ensures in
+    let leaf = c.before.before.before.before.before.before.before.before.before.before.found.given.1 in
+    let retry = c.before.before.before.before.before.before.before.load-and-retry.ensures in
+    loaded _ _ _ _ _ _ start.requires.3 start.requires.4 start.requires.1 _ _ _ missed page walk start.requires.0 _ _ _ leaf retry
+    c.before.before.put-back.ensures
 
 pub serve-spec : {M : Type 1} → statement M
 serve-spec =

@@ -12,38 +12,22 @@ refusal-answer-requires : tie.Need-refusal-answer-requires
 refusal-answer-requires c κs = search rules
 
 returns : tie.Need-returns
-returns c =
-    refused _ _ _ 1 _ (short _ _ _ c.before.if1.true) (λ e. omega arith) c.refusal-answer.ensures
-
-edition-fits-requires : tie.Need-edition-fits-requires
-edition-fits-requires c κs = search rules
-
-refusal-answer-requires-2 : tie.Need-refusal-answer-requires-2
-refusal-answer-requires-2 c κs = search rules
-
-returns-2 : tie.Need-returns-2
-returns-2 c =
-    refused _ _ _ 1 _ (long _ _ _ 1 c.before.before.before.if1.false (refuse-here _ _ _ _ c.before.before.edition-fits.ensures
-    c.before.if2.true)) (λ e. omega arith)
-    c.refusal-answer2.ensures
+returns c = refused _ _ 1 _ (short _ _ c.before.if1.true) (λ e. omega arith) c.refusal-answer.ensures
 
 buffer-taken-requires : tie.Need-buffer-taken-requires
 buffer-taken-requires c κs = search rules
 
-refusal-answer-requires-3 : tie.Need-refusal-answer-requires-3
-refusal-answer-requires-3 c κs = search rules
+refusal-answer-requires-2 : tie.Need-refusal-answer-requires-2
+refusal-answer-requires-2 c κs = search rules
 
 same_length : tie.Need-same-length
 same_length c = search rules
 
-returns-3 : tie.Need-returns-3
-returns-3 c =
-    refused _ _ _ 2 _
-    (long _ _ _ 2 c.before.before.before.before.before.before.if1.false
-    (refuse-later _ _ _ _ c.before.before.before.before.before.edition-fits.ensures _
-    c.before.before.before.before.if2.false
-    (refuse-here _ _ _ _ c.before.before.buffer-taken.ensures c.before.if3.true)))
-    (λ e. omega arith) c.refusal-answer3.ensures
+returns-2 : tie.Need-returns-2
+returns-2 c =
+    refused _ _ 2 _
+    (long _ _ 2 c.before.before.before.before.if1.false (refuse-here _ _ _ _ c.before.before.buffer-taken.ensures c.before.if2.true))
+    (λ e. omega arith) c.refusal-answer2.ensures
 
 start-requires : tie.Need-start-requires
 start-requires c κs = search rules
@@ -52,14 +36,12 @@ put-registers-requires : tie.Need-put-registers-requires
 put-registers-requires c κs = search rules
 
 encode64-requires : tie.Need-encode64-requires
-encode64-requires c κs =
-    let d = c.before.before.before.before.before.before.before.before in
-    let e = d.before.before.before.before.before.before.before.before in
+encode64-requires c κs = let d = c.before.before.before.before.before.before.before.before.before.before in
     omega (
       arith,
-      buffer-told _ (sym d.before.before.before.before.buffer-taken.ensures ∙ not-false _ d.before.before.before.if3.false),
-      d.before.start.auto.0,
-      e.before.before.before.before.requires,
+      buffer-told _ (sym d.before.before.buffer-taken.ensures ∙ not-false _ d.before.if2.false),
+      c.before.before.before.before.before.before.before.before.before.start.auto.0,
+      d.before.before.before.before.before.before.before.before.requires,
     )
 
 same-length-2 : tie.Need-same-length-2
@@ -71,19 +53,11 @@ same-length-3 c = search rules
 same-length-4 : tie.Need-same-length-4
 same-length-4 c = search rules
 
-returns-4 : tie.Need-returns-4
-returns-4 c =
-    let d = c.before.before.before.before.before.before.before.before in
-    let e = d.before.before.before.before.before.before.before.before in
-    started _ _ _ _ _ _ _ _
-    (long _ _ _ 0 e.before.before.before.if1.false
-    (refuse-later _ _ _ _ e.before.before.edition-fits.ensures _ e.before.if2.false
-    (refuse-later _ _ _ _ d.before.before.before.before.before.before.before.buffer-taken.ensures _
-    d.before.before.before.before.before.before.if3.false refl)))
-    (sym e.before.before.edition-fits.ensures ∙ not-false _ e.before.if2.false)
-    e.before.before.before.before.before.before.before.requires
-    d.before.before.before.before.start.ensures
-    c.before.before.before.before.before.before.before.put-registers.ensures c.before.before.encode64.ensures
+returns-3 : tie.Need-returns-3
+returns-3 c = let d = c.before.before.before.before.before.before.before.before.before.before in
+    started _ _ _ _ _ _ _
+    (long _ _ 0 d.before.before.before.before.before.before.before.if1.false (refuse-later _ _ _ _ d.before.before.before.before.before.buffer-taken.ensures _ d.before.before.before.before.if2.false refl))
+    d.before.before.before.before.before.before.before.before.before.before.before.requires d.before.before.start.ensures c.before.before.before.before.before.before.before.put-registers.ensures c.before.before.encode64.ensures
 
 pub start-with-spec : {M : Type 1} → statement M
 start-with-spec =
@@ -91,17 +65,14 @@ start-with-spec =
     (tie.spec
     refusal-answer-requires
     returns
-    edition-fits-requires
-    refusal-answer-requires-2
-    returns-2
     buffer-taken-requires
-    refusal-answer-requires-3
+    refusal-answer-requires-2
     same_length
-    returns-3
+    returns-2
     start-requires
     put-registers-requires
     encode64-requires
     same-length-2
     same-length-3
     same-length-4
-    returns-4)
+    returns-3)

@@ -39,7 +39,7 @@ book-requires c κs = (
   c.before.before.before.before.before.before.before.book-served.ensures.in-limit
       (not-false c.before.before.before.before.before.before.before.book-served.result
       c.before.before.before.before.before.if1.false),
-  omega (arith, column-small _ _ c.before.fault-column.ensures),
+  column-small _ _ c.before.fault-column.ensures,
   omega arith,
 )
 

@@ -1,3 +1,4 @@
+use native.Mathlib.Omega.{arith}
 use Rattle.report.proofs.GainLaws.{column-low, column-absent, column-broken}
 use borrow.Author.Rules.{rules}
 use Rattle.report.proofs.gains.fault_column.Statement.{statement}

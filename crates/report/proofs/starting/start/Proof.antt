@@ -34,7 +34,7 @@ same-length-5 : tie.Need-same-length-5
 same-length-5 c = search rules
 
 returns : tie.Need-returns
-returns c = let given = c.before.before.before.before.before.before.before.before.before.before.before.before.before.before.before.before.before.before.before.before.before.before.before.before.requires in starts _ _ _ _ _ _ _ _ _ _ _ _ given.0 given.1 c.before.before.before.before.before.before.before.before.before.before.before.before.before.before.before.before.before.before.start.ensures given.2 given.3 given.4 given.5 c.before.before.before.before.before.before.before.before.before.before.before.before.before.before.clear.ensures c.before.before.before.before.before.before.before.before.before.before.clear2.ensures c.before.before.before.before.before.before.clear3.ensures c.before.before.clear-totals.ensures
+returns c = starts _ _ _ _ _ _ _ _ _ _ _ c.before.before.before.before.before.before.before.before.before.before.before.before.before.before.before.before.before.before.before.before.before.before.before.before.requires.0 c.before.before.before.before.before.before.before.before.before.before.before.before.before.before.before.before.before.before.start.ensures c.before.before.before.before.before.before.before.before.before.before.before.before.before.before.before.before.before.before.before.before.before.before.before.before.requires.1 c.before.before.before.before.before.before.before.before.before.before.before.before.before.before.before.before.before.before.before.before.before.before.before.before.requires.2 c.before.before.before.before.before.before.before.before.before.before.before.before.before.before.before.before.before.before.before.before.before.before.before.before.requires.3 c.before.before.before.before.before.before.before.before.before.before.before.before.before.before.before.before.before.before.before.before.before.before.before.before.requires.4 c.before.before.before.before.before.before.before.before.before.before.before.before.before.before.clear.ensures c.before.before.before.before.before.before.before.before.before.before.clear2.ensures c.before.before.before.before.before.before.clear3.ensures c.before.before.clear-totals.ensures
 
 pub start_spec : {M : Type 1} → statement M
 start_spec =

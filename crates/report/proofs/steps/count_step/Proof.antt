@@ -1,4 +1,4 @@
-use Rattle.report.proofs.StepLaws.{step-as, step_set, step-malformed}
+use Rattle.report.proofs.StepLaws.{step-access, step-store, step_set, step-malformed}
 use borrow.Author.Rules.{rules}
 use Rattle.report.proofs.steps.count_step.Statement.{statement}
 use Rattle.report.proofs.steps.count_step.Tie as tie
@@ -36,14 +36,14 @@ same-length-2 c = search rules
 same-length-3 : tie.Need-same-length-3
 same-length-3 c = search rules
 
+returns : tie.Need-returns
+returns c = step-access _ _ _ _ _ c.before.before.before.before.before.before.before.before.before.before.before.before.before.before.before.before.requires.indexed _ _ _ _ _ c.before.before.before.before.before.before.before.before.before.before.command.given.1 c.before.before.before.before.before.count-access.ensures
+
 same-length-4 : tie.Need-same-length-4
 same-length-4 c = search rules
 
 same-length-5 : tie.Need-same-length-5
 same-length-5 c = search rules
-
-returns : tie.Need-returns
-returns c = step-as _ _ _ _ _ _ _ _ _ _ c.before.before.before.before.before.before.before.before.before.before.before.before.before.before.before.before.command.given.1 c.before.before.before.before.before.before.before.before.before.count-access.ensures
 
 same-length-6 : tie.Need-same-length-6
 same-length-6 c = search rules
@@ -54,29 +54,23 @@ same-length-7 c = search rules
 same-length-8 : tie.Need-same-length-8
 same-length-8 c = search rules
 
+returns-2 : tie.Need-returns-2
+returns-2 c = step-store _ _ _ _ _ _ _ _ _ _ _ c.before.before.before.before.before.before.before.before.before.before.before.before.before.before.before.before.command2.given.1 c.before.before.before.before.before.before.before.before.before.count-store.ensures
+
 same-length-9 : tie.Need-same-length-9
 same-length-9 c = search rules
 
 same-length-10 : tie.Need-same-length-10
 same-length-10 c = search rules
 
-returns-2 : tie.Need-returns-2
-returns-2 c = step-as _ _ _ _ _ _ _ _ _ _ c.before.before.before.before.before.before.before.before.before.before.before.before.before.before.before.before.command2.given.1 c.before.before.before.before.before.before.before.before.before.count-store.ensures
+returns-3 : tie.Need-returns-3
+returns-3 c = step_set _ _ _ _ _ c.before.before.before.before.before.before.before.before.before.before.before.before.before.requires.indexed _ _ _ _ _ c.before.before.before.before.before.before.before.enum_told.given.1 c.before.before.before.before.before.before.before.before.before.before.before.before.before.requires.in-limit c.before.before.before.before.count-plain.ensures
 
 same-length-11 : tie.Need-same-length-11
 same-length-11 c = search rules
 
 same-length-12 : tie.Need-same-length-12
 same-length-12 c = search rules
-
-returns-3 : tie.Need-returns-3
-returns-3 c = step_set _ _ _ _ _ c.before.before.before.before.before.before.before.before.before.before.before.before.before.requires.indexed _ _ _ _ _ c.before.before.before.before.before.before.before.enum_told.given.1 c.before.before.before.before.before.before.before.before.before.before.before.before.before.requires.in-limit c.before.before.before.before.count-plain.ensures
-
-same-length-13 : tie.Need-same-length-13
-same-length-13 c = search rules
-
-same-length-14 : tie.Need-same-length-14
-same-length-14 c = search rules
 
 returns-4 : tie.Need-returns-4
 returns-4 c = step-malformed _ _ _ _ _ c.before.before.before.before.before.before.before.before.before.before.before.before.before.requires.indexed _ _ _ c.before.before.before.before.before.before.before.enum-told2.given.1 c.before.before.before.before.before.before.before.before.before.before.before.before.before.requires.in-limit c.before.before.before.before.count-plain2.ensures
@@ -96,18 +90,16 @@ count-step-spec =
     same_length
     same-length-2
     same-length-3
+    returns
     same-length-4
     same-length-5
-    returns
     same-length-6
     same-length-7
     same-length-8
+    returns-2
     same-length-9
     same-length-10
-    returns-2
+    returns-3
     same-length-11
     same-length-12
-    returns-3
-    same-length-13
-    same-length-14
     returns-4)

@@ -39,7 +39,7 @@ same-length-7 c = search rules
 
 returns : tie.Need-returns
 returns c = (
-  file-gives _ _ _ _ _ _ _ _ _ _ _ _ _ _ c.before.before.before.before.before.before.before.before.before.before.before.before.before.before.before.before.before.before.before.before.before.before.before.before.before.before.before.before.before.before.before.requires.0.0 c.before.before.before.before.before.before.before.before.before.before.before.before.before.before.before.before.before.before.count-file.ensures c.before.before.before.before.before.Ending-of.ensures
+  file-gives _ _ _ _ _ _ _ _ _ _ _ _ _ c.before.before.before.before.before.before.before.before.before.before.before.before.before.before.before.before.before.before.before.before.before.before.before.before.before.before.before.before.before.before.before.requires.0.0 c.before.before.before.before.before.before.before.before.before.before.before.before.before.before.before.before.before.before.count-file.ensures c.before.before.before.before.before.Ending-of.ensures
       c.before.before.put-ending.ensures.0,
   c.before.before.put-ending.ensures.1,
 )

@@ -18,7 +18,7 @@ same_length c = search rules
 
 returns : tie.Need-returns
 returns c = (
-  not_opened _ _ _ _ _ _ _ _ c.unopened.ensures c.before.before.before.put-unread.ensures.0,
+  not_opened _ _ _ _ _ _ _ c.unopened.ensures c.before.before.before.put-unread.ensures.0,
   let e = c.unopened.ensures.1 in let l = c.before.before.before.put-unread.ensures.1 in omega (arith, e, l),
 )
 
@@ -39,7 +39,7 @@ same-length-4 c = search rules
 
 returns-2 : tie.Need-returns-2
 returns-2 c = (
-  opened _ _ _ _ _ _ c.before.before.before.before.before.before.before.put-open.ensures.0,
+  opened _ _ _ _ _ c.before.before.before.before.before.before.before.put-open.ensures.0,
   c.before.before.before.before.before.before.before.put-open.ensures.1,
 )
 

@@ -9,9 +9,9 @@ start-requires c κs = search rules
 
 replay-requires : tie.Need-replay-requires
 replay-requires c κs = (
-  ready-first _ _ _ _ _ _ _ _ (c.before.before.before.before.before.before.before.before.before.before.before.before.words.given ∙ c.before.before.before.before.before.before.before.before.before.before.before.before.before.before.before.before.before.before.before.before.before.before.before.before.before.before.requires.0.1) (c.before.before.before.before.before.before.totals.given ∙ c.before.before.before.before.before.before.before.before.before.before.before.before.before.before.before.before.before.before.before.before.before.before.before.before.before.before.requires.0.4)
+  ready-first _ _ _ _ _ _ _ (c.before.before.before.before.before.before.before.before.before.before.before.before.words.given ∙ c.before.before.before.before.before.before.before.before.before.before.before.before.before.before.before.before.before.before.before.before.before.before.before.before.before.before.requires.1) (c.before.before.before.before.before.before.totals.given ∙ c.before.before.before.before.before.before.before.before.before.before.before.before.before.before.before.before.before.before.before.before.before.before.before.before.before.before.requires.4)
       c.before.before.before.before.before.before.before.before.before.before.before.before.before.before.before.start.ensures,
-  c.before.before.before.before.before.before.before.before.before.before.before.before.before.before.before.before.before.before.before.before.before.before.before.before.before.before.requires.0.5,
+  c.before.before.before.before.before.before.before.before.before.before.before.before.before.before.before.before.before.before.before.before.before.before.before.before.before.before.requires.5,
 )
 
 same_length : tie.Need-same-length
@@ -33,7 +33,7 @@ same-length-6 : tie.Need-same-length-6
 same-length-6 c = search rules
 
 returns : tie.Need-returns
-returns c = from_start _ _ _ _ _ _ _ _ c.before.before.before.before.before.before.before.before.before.before.before.before.before.before.before.before.before.before.before.before.before.before.before.before.before.before.before.start.ensures
+returns c = from_start _ _ _ _ _ _ _ c.before.before.before.before.before.before.before.before.before.before.before.before.before.before.before.before.before.before.before.before.before.before.before.before.before.before.before.start.ensures
     _ _ _ _ _ _ _ c.before.before.before.before.before.before.before.before.before.before.before.replay.ensures
 
 pub count-file-spec : {M : Type 1} → statement M

@@ -34,8 +34,8 @@ same-length-2 : tie.Need-same-length-2
 same-length-2 c = search rules
 
 returns : tie.Need-returns
-returns c = serve-step _ _ _ _ _ _ c.before.before.before.before.before.before.before.before.command.given.1
-    c.before.before.before.before.served-access.ensures
+returns c = serve-step _ _ _ _ _ c.before.before.before.before.before.before.command.given.1
+    c.before.before.served-access.ensures
 
 same-length-3 : tie.Need-same-length-3
 same-length-3 c = search rules

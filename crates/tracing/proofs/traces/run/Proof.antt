@@ -23,7 +23,7 @@ same-length-4 : tie.Need-same-length-4
 same-length-4 c = search rules
 
 returns : tie.Need-returns
-returns c = let given = c.before.before.before.before.before.before.before.before.before.before.before.before.before.before.before.before.before.before.before.before.before.before.requires in from_start _ _ _ _ _ _ _ (start-machine _ _ _ _ _ given.0 given.1 c.before.before.before.before.before.before.before.before.before.before.before.before.before.before.before.before.start.ensures given.2) c.before.before.before.before.before.before.before.before.run-blocks.ensures
+returns c = from_start _ _ _ _ _ _ _ (start-machine _ _ _ _ c.before.before.before.before.before.before.before.before.before.before.before.before.before.before.before.before.before.before.before.before.before.before.requires.0 c.before.before.before.before.before.before.before.before.before.before.before.before.before.before.before.before.start.ensures c.before.before.before.before.before.before.before.before.before.before.before.before.before.before.before.before.before.before.before.before.before.before.requires.1) c.before.before.before.before.before.before.before.before.run-blocks.ensures
 
 pub run_spec : {M : Type 1} → statement M
 run_spec =

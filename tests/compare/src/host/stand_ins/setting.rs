@@ -29,18 +29,9 @@ fn accept(answer: &mut Answer, number: u32, value: u32) {
     set(answer, number as usize, value);
 }
 
-/// The setting as it would be accepted with this edition in its registers.
-fn take(case: &Case, answer: &mut Answer, edition: u32) {
-    let held = case.runs.registers.get(44..48);
-    if held == Some(&edition.to_be_bytes()) && answer.number == 1 << 56 {
-        let (number, value) = number_and_value(case);
-        accept(answer, number.min(5), value);
-    }
-}
-
 #[test]
 fn every_faulty_setting_shows() {
-    let faults: [(&str, Fault); 19] = [
+    let faults: [(&str, Fault); 14] = [
         ("CONTEXT 63 is taken", |case, answer| {
             if answer.number == 5 << 56 && number_and_value(case) == (CONTEXT, 63) {
                 accept(answer, CONTEXT, 63);
@@ -92,13 +83,13 @@ fn every_faulty_setting_shows() {
         }),
         ("the fields are not looked at", |case, answer| {
             let (number, value) = number_and_value(case);
-            if answer.number == 1 << 56 && case.runs.registers.len() == 48 && number < 5 {
+            if answer.number == 1 << 56 && case.runs.registers.len() == 44 && number < 5 {
                 accept(answer, number, value);
             }
         }),
         ("registers of one byte more are taken", |case, answer| {
             let (number, value) = number_and_value(case);
-            if case.runs.registers.len() == 49 && number < 5 {
+            if case.runs.registers.len() == 45 && number < 5 {
                 accept(answer, number, value);
             }
         }),
@@ -118,24 +109,6 @@ fn every_faulty_setting_shows() {
             let (number, value) = number_and_value(case);
             if !is_accepted(answer) && number <= CONTEXT {
                 set(answer, number as usize, value);
-            }
-        }),
-        ("edition 0 is taken", |case, answer| take(case, answer, 0)),
-        ("edition 3 is taken", |case, answer| take(case, answer, 3)),
-        ("a setting clears the edition", |_, answer| {
-            if is_accepted(answer) {
-                set(answer, 11, 0);
-            }
-        }),
-        ("the edition is a setting", |case, answer| {
-            if let (7, (11, value @ 0..=2)) = (answer.number >> 56, number_and_value(case)) {
-                accept(answer, 11, value);
-            }
-        }),
-        ("registers of 44 bytes are taken", |case, answer| {
-            let (number, value) = number_and_value(case);
-            if case.runs.registers.len() == 44 && number < 5 {
-                accept(answer, number, value);
             }
         }),
         ("the answer is the value", |case, answer| {

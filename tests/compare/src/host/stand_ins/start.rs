@@ -1,7 +1,7 @@
 //! Faulty starts.
 
 use super::{all_show, cases, is_accepted, refuse, Fault};
-use crate::host::case::{bytes_of_numbers, Answer, Case};
+use crate::host::case::{bytes_of_numbers, Answer};
 use crate::protocol::Call;
 use reference::FIELDS;
 
@@ -13,40 +13,9 @@ fn fill(answer: &mut Answer, slot: fn(u64, u64) -> u64) {
     }
 }
 
-fn edition_of(case: &Case) -> u32 {
-    match case.call {
-        Call::Start { edition } => edition,
-        other => panic!("{other:?} is no start"),
-    }
-}
-
-fn is_good_length(case: &Case) -> bool {
-    case.runs.registers.len() == 48
-}
-
-/// The edition that an accepted start leaves.
-fn edition(answer: &mut Answer, edition: u32) {
-    if is_accepted(answer) {
-        answer.runs.registers[44..].copy_from_slice(&edition.to_be_bytes());
-    }
-}
-
-/// The start as it would be accepted, with registers and buffer as they are.
-fn accept(case: &Case, answer: &mut Answer) {
-    if is_good_length(case) && case.runs.buffer.len() == 512 {
-        answer.number = 0;
-    }
-}
-
-fn take(case: &Case, answer: &mut Answer, edition: u32) {
-    if edition_of(case) == edition {
-        accept(case, answer);
-    }
-}
-
 #[test]
 fn every_faulty_start_shows() {
-    let faults: [(&str, Fault); 26] = [
+    let faults: [(&str, Fault); 14] = [
         ("set 0's empty entry in every set", |_, answer| {
             fill(answer, |_, _| 63 << 23)
         }),
@@ -100,63 +69,15 @@ fn every_faulty_start_shows() {
             }
         }),
         ("registers of one byte more are taken", |case, answer| {
-            if case.runs.registers.len() == 49 && case.runs.buffer.len() == 512 {
+            if case.runs.registers.len() == 45 && case.runs.buffer.len() == 512 {
                 answer.number = 0;
             }
         }),
         ("the refusal's number one bit too low", |_, answer| {
             answer.number >>= 1
         }),
-        ("registers of 44 bytes are taken", |case, answer| {
-            if case.runs.registers.len() == 44 && case.runs.buffer.len() == 512 {
-                answer.number = 0;
-            }
-        }),
-        ("registers of 52 bytes are taken", |case, answer| {
-            if case.runs.registers.len() == 52 && case.runs.buffer.len() == 512 {
-                answer.number = 0;
-            }
-        }),
-        ("edition 0 is taken", |case, answer| take(case, answer, 0)),
-        ("edition 3 is taken", |case, answer| take(case, answer, 3)),
-        ("an edition is cut to eight bits", |case, answer| {
-            if edition_of(case) > 0xFF && (1..=2).contains(&(edition_of(case) & 0xFF)) {
-                accept(case, answer);
-            }
-        }),
-        ("the edition is judged behind the buffer", |case, answer| {
-            if answer.number == 1 << 56 && is_good_length(case) && case.runs.buffer.len() != 512 {
-                answer.number = 2 << 56;
-            }
-        }),
-        ("the edition is always 1", |_, answer| {
-            edition(answer, 1);
-        }),
-        ("the edition is left out", |_, answer| edition(answer, 0)),
-        ("the edition of the bytes stays", |case, answer| {
-            if is_accepted(answer) {
-                answer.runs.registers[44..].copy_from_slice(&case.runs.registers[44..]);
-            }
-        }),
-        ("the edition the other way round", |case, answer| {
-            edition(answer, edition_of(case).swap_bytes())
-        }),
-        ("the edition in the cause's place", |_, answer| {
-            if is_accepted(answer) {
-                answer.runs.registers.swap(43, 47);
-            }
-        }),
-        (
-            "refused for the edition, which is written",
-            |case, answer| {
-                if answer.number == 1 << 56 && is_good_length(case) {
-                    let edition = edition_of(case).to_be_bytes();
-                    answer.runs.registers[44..].copy_from_slice(&edition);
-                }
-            },
-        ),
     ];
-    all_show(&faults, |call| matches!(call, Call::Start { .. }));
+    all_show(&faults, |call| matches!(call, Call::Start));
 }
 
 #[test]
@@ -164,8 +85,8 @@ fn a_start_that_leaves_any_register_shows() {
     let cases = cases();
     for register in 0..FIELDS {
         let bytes = 4 * register..4 * register + 4;
-        let shown = cases.all.iter().any(|(case, right)| {
-            matches!(case.call, Call::Start { .. })
+        let shown = cases.0.iter().any(|(case, right)| {
+            matches!(case.call, Call::Start)
                 && is_accepted(right)
                 && case.runs.registers[bytes.clone()] != right.runs.registers[bytes.clone()]
         });

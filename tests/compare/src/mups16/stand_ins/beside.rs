@@ -8,9 +8,7 @@ pub fn beside(fault: Fault, request: &Request) -> ([u32; FIELDS], Vec<u64>) {
     let (mut registers, mut buffer) = (request.registers, request.buffer.clone());
     match fault {
         Fault::RegistersCleared => registers = [0; FIELDS],
-        Fault::CauseCleared => registers[FIELDS - 2] = 0,
-        Fault::EditionCleared => registers[FIELDS - 1] = 0,
-        Fault::EditionMadeOne => registers[FIELDS - 1] = registers[FIELDS - 1].min(1),
+        Fault::CauseCleared => registers[FIELDS - 1] = 0,
         Fault::BufferCleared => buffer.fill(0),
         Fault::LastBufferNumberCleared => {
             if let Some(last) = buffer.last_mut() {

@@ -186,8 +186,6 @@ faults! {
     // What stands beside, and what was before.
     RegistersCleared,
     CauseCleared,
-    EditionCleared,
-    EditionMadeOne,
     BufferCleared,
     LastBufferNumberCleared,
     BufferPast64Cleared,

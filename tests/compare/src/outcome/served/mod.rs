@@ -1,12 +1,10 @@
 //! Outcomes of a served access.
 
-mod mark;
-mod mark_outside;
 mod outside;
 pub mod path;
 mod smallest_run;
 
-use super::{refused, Runs};
+use super::refused;
 use crate::protocol::Answer;
 use reference::*;
 
@@ -22,9 +20,7 @@ const BOTH: &str = "served access refused 5, test mode and context 63";
 pub struct Served<'a> {
     registers: Registers,
     buffer: &'a [u64],
-    /// The table run before it, and after it.
     words: &'a [u32],
-    after: &'a [u32],
     access: Access,
     expected: &'a Answer,
 }
@@ -32,15 +28,14 @@ pub struct Served<'a> {
 impl<'a> Served<'a> {
     pub fn new(
         (registers, buffer): (Registers, &'a [u64]),
-        runs: Runs<'a>,
+        words: &'a [u32],
         access: Access,
         expected: &'a Answer,
     ) -> Served<'a> {
         Served {
             registers,
             buffer,
-            words: runs.before,
-            after: runs.after,
+            words,
             access,
             expected,
         }
@@ -87,7 +82,6 @@ pub fn all() -> Vec<String> {
     for call in [CALL, IN_SEQUENCE] {
         all.extend(refused::all_sets_of_grounds(call, &GROUNDS));
         all.extend(path::all(call));
-        all.extend(mark::all(call));
     }
     let never_accepted = ["context", "test"].map(|name| format!(", {name} at its largest value"));
     let fields = refused::all_fields(CALL).into_iter();
@@ -98,7 +92,6 @@ pub fn all() -> Vec<String> {
     all.extend(refused::all_draws(CALL));
     all.extend([TEST_MODE, CONTEXT_63, BOTH].map(String::from));
     all.extend(outside::all());
-    all.extend(mark_outside::all());
     all.extend(smallest_run::all(CALL));
     all
 }
@@ -113,7 +106,6 @@ pub fn of(served: &Served) -> Vec<String> {
     match grounds[..] {
         [] => {
             outcomes.extend(outside::of(served));
-            outcomes.extend(mark_outside::of(served));
             outcomes.extend(smallest_run::of(CALL, served));
         }
         [4] => outcomes.push(refused::draw_of(CALL, served.access.draw)),
@@ -137,7 +129,7 @@ pub fn in_sequence(served: &Served) -> Vec<String> {
 /// The outcomes that happen in a sequence as well as outside.
 fn of_either(call: &str, served: &Served, grounds: &[u32]) -> Vec<String> {
     match grounds {
-        [] => [path::of(call, served), mark::of(call, served)].concat(),
+        [] => path::of(call, served),
         _ => vec![refused::set_of_grounds(
             call,
             grounds,

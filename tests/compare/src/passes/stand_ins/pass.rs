@@ -53,14 +53,14 @@ pub fn collect(fault: Fault, lent: Lent, pool: Pool, id: u32) -> (Pass, Pool) {
         _ => emptied.iter().sum(),
     });
     let pass = Pass {
-        reply: Reply::unmarked(
+        reply: Reply {
             outcome,
-            match fault {
+            loads: match fault {
                 Fault::LoadsCounted => visits.len() as u32,
                 _ => 0,
             },
-            left(fault, registers, id, &visits),
-        ),
+            registers: left(fault, registers, id, &visits),
+        },
         given: match fault {
             Fault::GivenCountsVisits => visits.len() as u32,
             Fault::GivenCountsAged => aged as u32,

@@ -35,7 +35,7 @@ pub const PAST_AND_BACK: &str = "file with a net change past the limit and back"
 /// Of longer traces the lines alone are looked at, not the records.
 const MOST_BYTES: usize = 1 << 15;
 
-pub fn all(edition: u32) -> Vec<String> {
+pub fn all() -> Vec<String> {
     let calls = [
         NO_ARGUMENT,
         ONE_FILE,
@@ -64,7 +64,7 @@ pub fn all(edition: u32) -> Vec<String> {
         all.extend([piece(bytes, 0), piece(bytes, 1)]);
     }
     all.extend(lines::all());
-    all.extend(records::all(edition));
+    all.extend(records::all());
     all.extend(across::all());
     all.extend(failing::all());
     all.extend(forbidden::all());
@@ -87,7 +87,7 @@ pub fn of_call(reports: &[Report]) -> Vec<&'static str> {
     outcomes
 }
 
-pub fn of_file(number: usize, (case, edition): (&Case, u32), report: &Report) -> Vec<String> {
+pub fn of_file(number: usize, case: &Case, report: &Report) -> Vec<String> {
     let mut outcomes = vec![digits(number.to_string().len())];
     match report {
         Report::Totals(totals) => {
@@ -98,12 +98,12 @@ pub fn of_file(number: usize, (case, edition): (&Case, u32), report: &Report) ->
         Report::Unread => {}
     }
     if let Some(trace) = &case.trace {
-        outcomes.extend(of_trace(edition, trace));
+        outcomes.extend(of_trace(trace));
     }
     outcomes
 }
 
-fn of_trace(edition: u32, trace: &[u8]) -> Vec<String> {
+fn of_trace(trace: &[u8]) -> Vec<String> {
     let (records, rest) = trace.as_chunks();
     let mut outcomes = Vec::new();
     if !rest.is_empty() {
@@ -115,7 +115,7 @@ fn of_trace(edition: u32, trace: &[u8]) -> Vec<String> {
     if trace.len() > MOST_BYTES {
         return outcomes;
     }
-    let of_records = records::of(edition, records);
+    let of_records = records::of(records);
     if !records.is_empty()
         && of_records
             .iter()

@@ -1,25 +1,23 @@
 //! Outcomes of the records of a trace, by what the report books of each.
 
 use super::{access, store};
-use crate::traces::marks;
 use crate::traces::record::{Record, ACCESS, STORE};
 use reference::report::{ByCounts, LeafWords};
 use reference::trace::{Unit, RECORD_BYTES, TABLE_WORDS};
-use reference::{Mark, Outcome};
+use reference::Outcome;
 
 const REFUSED: &str = "record refused";
 
-pub fn all(edition: u32) -> Vec<String> {
+pub fn all() -> Vec<String> {
     let mut all: Vec<String> = [5, 6, 7, 8].map(refused).to_vec();
     all.extend(access::all());
     all.extend(store::all());
-    all.extend(marks::all(edition));
     all
 }
 
-pub fn of(edition: u32, records: &[[u8; RECORD_BYTES]]) -> Vec<String> {
+pub fn of(records: &[[u8; RECORD_BYTES]]) -> Vec<String> {
     let mut watch = Watch {
-        unit: Unit::start(edition),
+        unit: Unit::start(),
         leaves: ByCounts::begin(TABLE_WORDS),
     };
     records
@@ -49,16 +47,12 @@ impl Watch {
         match record.kind {
             ACCESS => {
                 let registers = self.unit.registers;
-                let reply = self.unit.reply(bytes);
-                if !is_accepted(reply.outcome) {
-                    return of_refused(reply.outcome);
+                match self.unit.step(bytes) {
+                    line if is_accepted(line.outcome) => {
+                        access::of(registers, record, line.outcome, line.loads)
+                    }
+                    line => of_refused(line.outcome),
                 }
-                if let Some(Mark { index, old, .. }) = reply.mark {
-                    self.leaves.stored(&self.unit.words, index, old);
-                }
-                let mut outcomes = access::of(registers, record, reply.outcome, reply.loads);
-                outcomes.extend(marks::of(reply));
-                outcomes
             }
             STORE if (record.index as usize) < TABLE_WORDS => self.store(record),
             _ => of_refused(self.unit.step(bytes).outcome),

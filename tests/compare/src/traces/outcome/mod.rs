@@ -9,7 +9,7 @@ use super::record::{Record, ACCESS, STORE};
 use crate::expected;
 use crate::outcome::served::{path, Served};
 use crate::outcome::store::{self, Written};
-use crate::outcome::{refused, setting, Runs};
+use crate::outcome::{refused, setting};
 use crate::protocol::Answer;
 use reference::trace::{Line, Unit, RECORD_BYTES, TABLE_WORDS};
 use reference::*;
@@ -99,12 +99,7 @@ impl Before {
             draw: (self.record.modes & 3) as u32,
         };
         let found = (self.registers, &self.buffer[..]);
-        // No mark of a trace changes a walk.
-        let runs = Runs {
-            before: &unit.words,
-            after: &unit.words,
-        };
-        let mut outcomes = path::of(ACCESSES, &Served::new(found, runs, access, answer));
+        let mut outcomes = path::of(ACCESSES, &Served::new(found, &unit.words, access, answer));
         let segment = segment(access.address);
         let is_linear = self.registers.segment_is_linear(segment);
         match (self.registers.enable, is_linear, access.user) {

@@ -1,5 +1,0 @@
-//! Runs the trace on standard input and writes its lines to standard output, in edition 2.
-
-fn main() -> std::io::Result<()> {
-    reference::trace::main(2)
-}
