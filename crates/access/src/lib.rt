@@ -1,4 +1,6 @@
 // One raw access, once it is accepted: linear segments, the buffer's answer, exceptions, cause and selected slot.
+#![tactic(auto)]
+
 ghost use Rattle.std.specs.Prelude.{◌≡◌, ◌<◌, ◌≤◌};
 ghost use Rattle.runs.specs.Bits.{bit};
 ghost use Rattle.entry.specs.Entry.{FRAMES};
@@ -18,14 +20,14 @@ pub const MISS: u32 = 8;
 const SEGMENT: u32 = 1 << 28;
 
 // A physical address, or none.
-#[derive(Drop)]
+#[derive(Clone, Copy)]
 pub enum Physical {
     Address(u32),
     None,
 }
 
 // The four answers of a raw access, and the registers that it leaves.
-#[derive(Drop)]
+#[derive(Clone, Copy)]
 pub struct Translation {
     pub physical: Physical,
     pub interrupt: bool,

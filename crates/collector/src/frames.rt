@@ -12,7 +12,7 @@ use heap::Pool;
 use registers::Outcome;
 
 // Whether frames could be given one after another, and the pool after that.
-#[derive(Drop)]
+#[derive(Clone, Copy)]
 pub(crate) struct Checked {
     clear: bool,
     pool: Pool,

@@ -1,5 +1,7 @@
 // The reference collector: a pass over the tree of one identification visits the leaves whose frames are in a pool. A valid one is made not
 // valid; one that it finds not valid is taken away, and its frame is given back.
+#![tactic(auto)]
+
 mod aging;
 mod frames;
 mod leaves;
@@ -14,7 +16,7 @@ use heap::Pool;
 use registers::{Registers, Reply, refusals};
 
 // A pass on its way: the frames given back and the slots emptied so far, and the pool.
-#[derive(Drop)]
+#[derive(Clone, Copy)]
 pub struct Aged {
     pub given: u32,
     pub emptied: u32,
@@ -22,7 +24,7 @@ pub struct Aged {
 }
 
 // What a pass answers: a table store's reply, with the slots emptied; how many frames were given back; the pool after it.
-#[derive(Drop)]
+#[derive(Clone, Copy)]
 pub struct Collected {
     pub reply: Reply,
     pub given: u32,

@@ -1,4 +1,6 @@
 // Start, register writes, register reads and guarded settings.
+#![tactic(auto)]
+
 ghost use Rattle.std.specs.Prelude.{true, ◌≡◌};
 ghost use Rattle.registers.specs.Fields.{fits_at, registers_fit};
 ghost use Rattle.slots.specs.Buffer.{Buffer, buffer_fits};

@@ -1,4 +1,6 @@
 // An entry of the translation buffer, as one number of 64 bits and as its fields; the empty slot; a page's slots.
+#![tactic(auto)]
+
 ghost use Rattle.std.specs.Prelude.{◌≡◌, ◌<◌, ◌^◌};
 ghost use Rattle.entry.specs.Address.{slot_of, vpn_of};
 ghost use Rattle.entry.specs.Entry.{EntryFits, join, low_bits, pack, unpack};
@@ -21,7 +23,7 @@ const WIDE_VPN15S: u64 = VPN15S as u64;
 const WIDE_FRAMES: u64 = FRAMES as u64;
 
 // The 44 bits of an entry, by their fields.
-#[derive(Drop)]
+#[derive(Clone, Copy)]
 pub struct Entry {
     pub vpn15: u32,
     pub page_id: u32,

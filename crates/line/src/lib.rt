@@ -1,4 +1,6 @@
 // A record's line, as text; and text and numbers in decimal, for other lines.
+#![tactic(auto)]
+
 mod text;
 
 ghost use Rattle.std.specs.Prelude.{◌≡◌, ◌+◌, ◌≤◌, length};

@@ -1,4 +1,6 @@
 // The unit's access calls, with their refusals.
+#![tactic(auto)]
+
 ghost use Rattle.std.specs.Prelude.{◌≡◌, ◌≤◌, length};
 ghost use Rattle.registers.specs.Refusals.{draw_fits};
 ghost use Rattle.page_table.specs.Stretches.{ROOTS};
@@ -16,7 +18,7 @@ use registers::{Access, Outcome, Registers, Reply, refusals};
 const SELECT: u32 = 6;
 
 // What a raw access replies: its answers and registers, or the refusal's number and the registers received.
-#[derive(Drop)]
+#[derive(Clone, Copy)]
 pub enum RawReply {
     Answered(Translation),
     Refused(u32, Registers),

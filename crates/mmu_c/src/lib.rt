@@ -1,4 +1,6 @@
 // What a C host calls. Registers, buffer and tables are bytes, most significant first; an answer is one number of 64 bits.
+#![tactic(auto)]
+
 pub mod guarded_setting;
 pub mod raw_access;
 pub mod served_access;

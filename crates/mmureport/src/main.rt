@@ -1,4 +1,5 @@
 // Reports over traces: replays each file that the arguments name, and writes its lines to standard output.
+#![tactic(auto)]
 
 // A file's name has fewer bytes than this.
 const PATH: usize = 4096;

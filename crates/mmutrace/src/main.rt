@@ -1,4 +1,5 @@
 // Runs a trace: reads records of eight bytes from standard input to its end, and writes a line for each to standard output.
+#![tactic(auto)]
 
 // A program has no exit status of its own: where a line could not be written, it says so on standard error.
 fn say_unless(written: bool) {

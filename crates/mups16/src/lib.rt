@@ -1,4 +1,6 @@
 // The memory unit of the MUPS/16: 32 tables of 256 entries, and the operations that map through them, read them and set them.
+#![tactic(auto)]
+
 mod entries;
 mod maps;
 mod reads;
@@ -9,7 +11,7 @@ pub use reads::{fault_address, read_high, read_low};
 pub use sets::{set_entry, set_table_index};
 
 // What the unit keeps from call to call. Of the table index the low 5 bits count. Boot mode is a line of the machine: the caller sets it.
-#[derive(Drop)]
+#[derive(Clone, Copy)]
 pub struct State {
     pub table_index: u32,
     pub boot_mode: bool,
@@ -17,7 +19,7 @@ pub struct State {
 }
 
 // What a map answers: an address of 24 bits, and each fault by itself.
-#[derive(Drop)]
+#[derive(Clone, Copy)]
 pub struct Mapping {
     pub address: u32,
     pub no_mapping: bool,
@@ -27,7 +29,7 @@ pub struct Mapping {
 
 // What a call answers: a map an address, a read of an entry a word, a set of an entry that it is done; each of them a refusal's number
 // where the run is not as long as it must be.
-#[derive(Drop)]
+#[derive(Clone, Copy)]
 pub enum Answer {
     At(Mapping),
     Word(u16),
@@ -36,7 +38,7 @@ pub enum Answer {
 }
 
 // A map's answer, and the state after it.
-#[derive(Drop)]
+#[derive(Clone, Copy)]
 pub struct MapReply {
     pub answer: Answer,
     pub state: State,

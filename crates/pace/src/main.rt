@@ -1,5 +1,7 @@
 // Makes one of the unit's calls many times: what the measurements drive. Standard input has a scenario and a count, two words of four
 // bytes; standard output gets the sum of the answers, eight bytes. tests/PROTOCOL.md gives the scenarios.
+#![tactic(auto)]
+
 mod mups16_scenarios;
 
 ghost use Rattle.std.specs.Prelude.{◌^◌, ◌<◌, ◌≤◌};
@@ -234,7 +236,7 @@ fn run_maps(r: Registers, buffer: &mut [u64], words: &mut [u32], count: u32) -> 
 }
 
 // A sum on its way, and the pool then.
-#[derive(Drop)]
+#[derive(Clone, Copy)]
 struct Going {
     sum: u64,
     pool: Pool,

@@ -1,4 +1,6 @@
 // The walk of the page tables, a lent run of table words (course format).
+#![tactic(auto)]
+
 ghost use Rattle.std.specs.Prelude.{true, ◌≡◌, ◌%◌, ◌≤◌, ◌<◌, length, get_or};
 ghost use Rattle.entry.specs.Address.{PAGES};
 ghost use Rattle.page_table.specs.Words.{present, number};
@@ -20,7 +22,7 @@ const LONGEST: usize = 1 << 26;
 pub const PRESENT: u32 = 1 << 31;
 
 // A leaf: whether it stands in the global tree, its word, and the word's index in the run.
-#[derive(Drop)]
+#[derive(Clone, Copy)]
 pub struct Found {
     pub global: bool,
     pub word: u32,
@@ -28,13 +30,13 @@ pub struct Found {
 }
 
 // Where a walk stopped: whether in the global tree, and the level of the word that decided: root 1, directory 2, leaf 3.
-#[derive(Drop)]
+#[derive(Clone, Copy)]
 pub struct Stop {
     pub global: bool,
     pub level: u32,
 }
 
-#[derive(Drop)]
+#[derive(Clone, Copy)]
 pub enum Walk {
     Leaf(Found),
     Absent(Stop),

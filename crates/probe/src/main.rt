@@ -1,5 +1,7 @@
 // Makes the unit's calls one after another, as standard input asks, and writes each answer to standard output: what the
 // comparison with the second program drives. tests/PROTOCOL.md gives the bytes of requests and answers.
+#![tactic(auto)]
+
 mod mups16_calls;
 
 ghost use Rattle.std.specs.Prelude.{◌≡◌, ◌*◌, ◌≤◌, length};
@@ -14,7 +16,7 @@ use page_table::Walk;
 use registers::{Outcome, Registers, Reply};
 
 // A call's kind, its four arguments, how long its runs are, the registers, and the state of the MUPS/16 unit.
-#[derive(Drop)]
+#[derive(Clone, Copy)]
 struct Request {
     kind: u32,
     first: u32,
@@ -28,7 +30,7 @@ struct Request {
 }
 
 // The four words of an answer, and the registers.
-#[derive(Drop)]
+#[derive(Clone, Copy)]
 struct Answer {
     first: u32,
     second: u32,
@@ -38,14 +40,14 @@ struct Answer {
 }
 
 // A pool of frames that was read, or that the input ended before it.
-#[derive(Drop)]
+#[derive(Clone, Copy)]
 struct PoolRead {
     got: bool,
     pool: Pool,
 }
 
 // An answer with the pool after the call.
-#[derive(Drop)]
+#[derive(Clone, Copy)]
 struct PoolAnswer {
     answer: Answer,
     pool: Pool,

@@ -25,14 +25,14 @@ const ADDRESSES: u32 = 1 << 16;
 const STATE_BYTES: usize = 12;
 
 // A state that was read, or that the input ended before it.
-#[derive(Drop)]
+#[derive(Clone, Copy)]
 pub(crate) struct StateRead {
     pub got: bool,
     pub state: State,
 }
 
 // What a call answers, and the state after it.
-#[derive(Drop)]
+#[derive(Clone, Copy)]
 struct Called {
     answer: Answer,
     state: State,

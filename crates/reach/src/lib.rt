@@ -1,5 +1,7 @@
 // What the 64 roots reach in the page tables, and how many leaf words there are. An index is kept beside the tables: for each table, how
 // many words of reached directories lead on to it (its links), and how many of its words are present.
+#![tactic(auto)]
+
 mod links;
 
 ghost use Rattle.std.specs.Prelude.{true, ◌≡◌, ◌<◌, length, set};

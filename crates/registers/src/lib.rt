@@ -1,4 +1,6 @@
 // The registers by value, the access that a call is asked for, and what a call replies.
+#![tactic(auto)]
+
 pub mod refusals;
 
 ghost use Rattle.std.specs.Prelude.{◌≡◌, ◌<◌};
@@ -8,7 +10,7 @@ ghost use Rattle.registers.specs.Replies.{answered, done, refused};
 
 // Numbers 0 to 9 of document 01, then exception value * 2 + write bit.
 // TLB_HI and the cause register share vpn and page_id: tlb_hi is vpn * 64 + page_id.
-#[derive(Drop)]
+#[derive(Clone, Copy)]
 pub struct Registers {
     pub kseg: u32,
     pub ctrl: u32,
@@ -24,7 +26,7 @@ pub struct Registers {
 }
 
 // One byte address, the mode and the direction; the draw (document 01's word) stands for the random set.
-#[derive(Drop)]
+#[derive(Clone, Copy)]
 pub struct Access {
     pub address: u32,
     pub user: bool,
@@ -32,7 +34,7 @@ pub struct Access {
     pub draw: u32,
 }
 
-#[derive(Drop)]
+#[derive(Clone, Copy)]
 pub enum Outcome {
     At(u32),
     Fault(u32),
@@ -41,7 +43,7 @@ pub enum Outcome {
 }
 
 // A call's outcome, the entries that it loaded, and the registers that it returns.
-#[derive(Drop)]
+#[derive(Clone, Copy)]
 pub struct Reply {
     pub outcome: Outcome,
     pub loads: u32,

@@ -1,4 +1,6 @@
 // The report over a trace: what its records give to the totals of each identification.
+#![tactic(auto)]
+
 mod gains;
 mod starting;
 mod steps;
@@ -10,7 +12,7 @@ pub use starting::start;
 pub use traces::run;
 
 // After some records: the registers, and whether every total is within the limit.
-#[derive(Drop)]
+#[derive(Clone, Copy)]
 pub struct Counted {
     pub registers: Registers,
     pub fits: bool,

@@ -3,7 +3,7 @@ ghost use Rattle.std.specs.Prelude.{◌≡◌, ◌≤◌, ◌<◌, false, ◌||�
 ghost use Rattle.reporting.specs.Files.{Fills};
 
 // How many bytes were read, whether a read failed, and whether one answered that the file has ended.
-#[derive(Drop)]
+#[derive(Clone, Copy)]
 pub(crate) struct Read {
     pub length: usize,
     pub failed: bool,

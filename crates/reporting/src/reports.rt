@@ -9,7 +9,7 @@ use crate::{Filed, Reported};
 pub const ROOM: usize = 20480;
 
 // After a file: what it gave, and whether its lines could be written.
-#[derive(Drop)]
+#[derive(Clone, Copy)]
 struct Lines {
     file: Filed,
     written: bool,

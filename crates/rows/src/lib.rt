@@ -1,4 +1,6 @@
 // The report's lines of one file, as text from a run's first byte on. Each function answers how many bytes the text has.
+#![tactic(auto)]
+
 mod row;
 
 ghost use Rattle.std.specs.Prelude.{◌≡◌, ◌*◌, ◌≤◌, length};

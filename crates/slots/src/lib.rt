@@ -1,4 +1,6 @@
 // The translation buffer, a lent run of 64 numbers: one slot read, one slot replaced, all slots made empty.
+#![tactic(auto)]
+
 ghost use Rattle.std.specs.Prelude.{true, ◌≡◌, ◌<◌, ◌^◌, length, replicate};
 ghost use Rattle.slots.specs.Buffer.{Buffer, buffer_fits, slot_at, with_slot};
 ghost use Rattle.slots.specs.Start.{start_buffer};

@@ -1,4 +1,6 @@
 // The table store: one word of the page tables is written, and every slot of the buffer is judged anew.
+#![tactic(auto)]
+
 ghost use Rattle.std.specs.Prelude.{true, [], ◌∷◌, ◌≡◌, ◌<◌, ◌≤◌, ◌^◌, length};
 ghost use Rattle.entry.specs.Address.{PAGES};
 ghost use Rattle.entry.specs.Entry.{pack, unpack};
@@ -15,14 +17,14 @@ use page_table::{Found, Walk};
 use registers::{Registers, Reply, refusals};
 
 // A page under an identification.
-#[derive(Drop)]
+#[derive(Clone, Copy)]
 pub struct Page {
     pub id: u32,
     pub vpn: u32,
 }
 
 // What the entry of a slot claims: nothing in an empty slot, what no tables give with page_id 63, else a page's leaf.
-#[derive(Drop)]
+#[derive(Clone, Copy)]
 pub enum Claim {
     Nothing,
     Void,

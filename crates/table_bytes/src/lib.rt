@@ -1,4 +1,6 @@
 // The page tables as bytes: the walk of a page, and the store of one word. A walk decodes only the words that it reads.
+#![tactic(auto)]
+
 ghost use Rattle.std.specs.Prelude.{true, ◌≡◌, ◌*◌, ◌≤◌, ◌<◌, ◌^◌, length, get_or};
 ghost use Rattle.entry.specs.Address.{PAGES};
 ghost use Rattle.entry.specs.Entry.{unpack};

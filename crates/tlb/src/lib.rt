@@ -1,4 +1,6 @@
 // The search of a page's four slots by the hit test, and the load of an entry.
+#![tactic(auto)]
+
 mod hit;
 
 ghost use Rattle.std.specs.Prelude.{true, ◌≡◌, ◌<◌};
@@ -9,7 +11,7 @@ ghost use Rattle.tlb.specs.Load.{LoadGives};
 use crate::hit::hit;
 
 // How many of the four slots hit, and the lowest set that does.
-#[derive(Drop)]
+#[derive(Clone, Copy)]
 pub struct Hits {
     pub count: u32,
     pub set: u32,

@@ -1,4 +1,6 @@
 // A trace: records of eight bytes, each a call or malformed; a record's step; and a run of records.
+#![tactic(auto)]
+
 mod records;
 mod steps;
 mod traces;
@@ -9,7 +11,7 @@ pub use steps::step;
 pub use traces::{command_at, run};
 
 // What a record asks for: a served access; a store at an index; a guarded setting of a register; or nothing, where it is malformed.
-#[derive(Drop)]
+#[derive(Clone, Copy)]
 pub enum Command {
     Serve(Access),
     Store(u32, u32),
@@ -18,7 +20,7 @@ pub enum Command {
 }
 
 // After a run of records: the registers, and how many bytes the lines have.
-#[derive(Drop)]
+#[derive(Clone, Copy)]
 pub struct Ran {
     pub registers: Registers,
     pub length: usize,

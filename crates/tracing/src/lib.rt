@@ -1,4 +1,6 @@
 // The trace program's loop: reads records of eight bytes from standard input, block by block, and writes a line for each to standard output.
+#![tactic(auto)]
+
 mod blocks;
 mod traces;
 
@@ -7,7 +9,7 @@ pub use traces::{BLOCK, ROOM, run, run_blocks};
 
 // After a block: the registers; the next record's number; how many bytes were read; how many bytes the block's lines have, and whether
 // they could be written.
-#[derive(Drop)]
+#[derive(Clone, Copy)]
 pub struct Block {
     pub registers: Registers,
     pub number: u64,

@@ -1,5 +1,7 @@
 // Whether the tree of an identification stands by itself, so that a store to one of its leaves changes no other word that a walk reads.
 // Directories and tables are told by their numbers: directory d stands in the words of table d / 2.
+#![tactic(auto)]
+
 ghost use Rattle.std.specs.Prelude.{true, ◌≡◌, ◌+◌, ◌*◌, ◌≤◌, ◌<◌, length};
 ghost use Rattle.page_table.specs.Stretches.{ROOTS};
 ghost use Rattle.reach.specs.Reach.{leads_to};

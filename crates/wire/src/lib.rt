@@ -1,4 +1,6 @@
 // Runs of numbers as bytes, most significant first. A number's byte that counts 256 ^ weight is its byte of that weight.
+#![tactic(auto)]
+
 ghost use Rattle.std.specs.Prelude.{◌≡◌, ◌+◌, ◌*◌, ◌≤◌, ◌<◌, length};
 ghost use Rattle.wire.specs.Wire.{AreBytes, bytes_of, decoded, element_at, encoded, with_element};
 
