@@ -1,0 +1,11 @@
+use Prim.Native.Nat.{◌-◌}
+use Rattle.slots.specs.Buffer.{Buffer}
+use Rattle.collector.proofs.TurnLaws.{Going}
+use Rattle.collector.proofs.aging.age_table.Given as goal
+
+abbrev pub invariant-loop-k : goal.invariant-loop-k
+invariant-loop-k l = Going l.first l.size l.table (record { l.buffer = Buffer.Wide l.initial.buffer; l.words = l.initial.words; l.aged = l.initial.aged })
+    (record { l.buffer = Buffer.Wide l.buffer; l.words = l.words; l.aged = l.aged }) l.k
+
+abbrev pub decreases-loop-k : goal.decreases-loop-k
+decreases-loop-k l = 1024 - l.k

@@ -1,0 +1,8 @@
+use Rattle.line.proofs.TextLaws.{digit_low, digit-high}
+use Rattle.line.proofs.text.digit.Goals as goal
+
+pub returns-then-d-lt10 : goal.returns-then-d-lt10
+returns-then-d-lt10 c = digit_low _ c.if-d-lt10.true
+
+pub returns-else-d-lt10 : goal.returns-else-d-lt10
+returns-else-d-lt10 c = digit-high _ c.if-d-lt10.false

@@ -1,0 +1,10 @@
+use mathlib.Core.Path.{refl}
+use native.Mathlib.Omega.{arith}
+use Rattle.line.specs.Text.{decimal}
+use Rattle.line.proofs.TextLaws.{spelt-put}
+use Rattle.line.proofs.text.put_decimal.Goals as goal
+
+pub returns : goal.returns
+unfolding decimal
+returns c = spelt-put _ _ _ _ _ _ _ (rw c.decimal_length.ensures.0 refl) (omega arith)
+    c.fill_digits.ensures

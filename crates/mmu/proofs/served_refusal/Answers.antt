@@ -1,0 +1,13 @@
+use Rattle.registers.proofs.RefusalLaws.{machine-refused, machine-later}
+use Rattle.mmu.specs.ServedAccess.{served_refusal}
+use Rattle.mmu.proofs.served_refusal.Goals as goal
+
+pub returns-then-early-ne0 : goal.returns-then-early-ne0
+unfolding served_refusal
+returns-then-early-ne0 c = machine-refused _ _ _ _ _ _ c.registers_fit.ensures c.buffer_fits.ensures c.tables_fit.ensures _ c.machine_refusal-early.ensures _
+    c.if-early-ne0.true
+
+pub returns : goal.returns
+unfolding served_refusal
+returns c = machine-later _ _ _ _ _ _ c.registers_fit.ensures c.buffer_fits.ensures c.tables_fit.ensures _ c.machine_refusal-early.ensures _ _
+    c.if-early-ne0.false c.service_refusal.ensures

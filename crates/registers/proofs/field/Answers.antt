@@ -1,0 +1,6 @@
+use Rattle.registers.specs.Fields.{field}
+use Rattle.registers.proofs.field.Goals as goal
+
+pub returns : goal.returns
+unfolding field
+returns c = rw c.to_words-fields.ensures

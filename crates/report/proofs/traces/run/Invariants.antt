@@ -1,0 +1,14 @@
+use Prim.Native.Nat.{◌-◌}
+use mathlib.Core.Path.{◌≡◌}
+use lib.ListN.{length}
+use Rattle.slots.specs.Buffer.Buffer.{Wide}
+use Rattle.report.proofs.TallyLaws.{Replayed}
+use Rattle.report.proofs.traces.run.Given as goal
+
+abbrev pub invariant-loop-i : goal.invariant-loop-i
+invariant-loop-i l = Replayed (record { l.registers = l.initial.registers; l.buffer = Wide l.initial.buffer; l.words = l.initial.words }) l.initial.totals l.input l.count
+    (record { l.registers = l.registers; l.buffer = Wide l.buffer; l.words = l.words }) l.links l.presents l.totals l.i
+    × (length l.buffer ≡ length l.initial.buffer) × (length l.links ≡ length l.initial.links) × (length l.presents ≡ length l.initial.presents)
+
+abbrev pub decreases-loop-i : goal.decreases-loop-i
+decreases-loop-i l = l.count - l.i
