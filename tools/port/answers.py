@@ -96,6 +96,8 @@ class Function:
             for field, old, fields in arm[2]:
                 if norm(old) == want and fields and rest[: len(fields)] == fields:
                     return [arm[0], field], rest[len(fields):]
+                if norm(old) == want and not fields and rest and rest[0].startswith("keys"):
+                    return [arm[0], field], rest
         best = None
         for p in self.places:
             if norm(p[2][0]) == want and p[0] in chain:
@@ -143,6 +145,9 @@ class Function:
             head, rest = self.step(fields[0], fields[1:], chain)
             return ".".join(["c"] + head + rest)
         text = re.sub(rf"(?<![\w.'-])c((?:\.{WORD})+)", one, text)
+        if self.path.split(".")[-1].startswith("+"):
+            # the measure's equation stands apart today
+            text = re.sub(r"c\.requires\.0(?![\w.])", "arith", text).replace("c.requires.1.", "c.requires.")
         # a name bound to a call's clauses
         for m in re.finditer(rf"let ({WORD}) = c\.({WORD})\.ensures in", text):
             for i, p in enumerate(self.places):
@@ -201,13 +206,17 @@ def tuple_parts(text):
 def convert(root, crate, folder, names):
     rel = os.path.relpath(folder, os.path.join(root, "crates", crate, "proofs"))
     path = rel.replace(os.sep, ".")
-    key = f"Rattle-{crate}-proofs.{path}.Lts"
+    cycle = path.split(".")[-1].startswith("+")
+    key = f"Rattle-{crate}-proofs.{path}.Lts" + ("-" + path.split(".")[-1][1:] if cycle else "")
     if key not in names:
         print(f"{crate}::{path}: no names")
         return
     with open(os.path.join(folder, "Proof.antt"), encoding="utf-8") as f:
         text = f.read()
-    if "tie.close" not in text:
+    if cycle:
+        text = re.sub(r"(?m)^(\S+) : \(t : ℕ\) → lts\.", r"\1 : tie.", text)
+        text = text.replace("abbrev μ : Measures 2 kinds.ps ℕ", "measure : ℕ")
+    if "tie.close" not in text and not cycle:
         print(f"{crate}::{path}: another form, left")
         return
     fn = Function(crate, path, names[key])
@@ -219,7 +228,9 @@ def convert(root, crate, folder, names):
     taken = set()
     for d in decls:
         first = d[0]
-        if re.search(r"statement M", " ".join(d[:2])) and "tie.close" in " ".join(d):
+        if re.search(r"statement M", " ".join(d[:2])) and ("tie.close" in " ".join(d) or cycle):
+            continue
+        if cycle and not re.match(rf"({WORD}) : tie\.", first):
             continue
         m = re.match(rf"(?:abbrev )?(?:pub )?({WORD}) : tie\.({WORD})(.*)$", first)
         if not m:
@@ -294,7 +305,7 @@ def convert(root, crate, folder, names):
         with open(os.path.join(folder, "Invariants.antt"), "w", encoding="utf-8") as f:
             f.write(out)
     if answers:
-        parts = ["\n".join(h) for h in helpers] + [f"pub {n} : goal.{n}\n{u}{n} c = {t}" for n, u, t in answers]
+        parts = ["\n".join(h) for h in helpers] + [f"pub {n} : goal.{n}\n{u}{n}{' t' if cycle else ''} c = {t}" for n, u, t in answers]
         body = "\n\n".join(parts)
         out = head + "\n".join(used(uses, body)) + ("\n" if used(uses, body) else "") + f"use {module}.Goals as goal\n\n" + body + "\n"
         with open(os.path.join(folder, "Answers.antt"), "w", encoding="utf-8") as f:

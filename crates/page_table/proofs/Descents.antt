@@ -124,14 +124,14 @@ module _ (global : Bool) (levels word at : ℕ) (b : Bool) (seen : b ≡ present
       go (suc n) ne on = sym (rw on)
 
 -- both trees: the `else` of the code knows of the first answer that its case is not absent
-not-absent : (x own : Walk) → OneOf (0 ∷ 2 ∷ []) (tag_of the_type x) → x ≡ global_first x own
+not-absent : (x own : Walk) → ((s : Stop) → x ≡ Absent s → ⊥) → x ≡ global_first x own
 unfolding global_first
-not-absent (Leaf f) own k = refl
-not-absent (Absent s) own k = absurd (⊎_elim (λ e. omega arith) (λ e. omega arith) k)
+not-absent (Absent s) own k = absurd (k s refl)
 not-absent (Broken s) own k = refl
+not-absent (Leaf f) own k = refl
 
 module _ (words : List ℕ) (id vpn : ℕ) (x : Walk) (first : x ≡ walk_tree words vpn true 63) where
-  pub first-decides : OneOf (0 ∷ 2 ∷ []) (tag_of the_type x) → x ≡ walk_page words id vpn
+  pub first-decides : ((s : Stop) → x ≡ Absent s → ⊥) → x ≡ walk_page words id vpn
   unfolding walk_page
   first-decides k = not-absent x (walk_tree words vpn false id) k ∙ ap (λ (y : Walk). global_first y (walk_tree words vpn false id)) first
 
