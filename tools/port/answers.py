@@ -87,6 +87,9 @@ class Function:
     def step(self, name, rest, chain):
         """The new words for a step's old name and the fields behind it."""
         want = norm(name)
+        rest = [r.replace("-", "_") if r in ("type-inv", "well-formed") else r for r in rest]
+        if name == "args" and rest:
+            rest = [rest[0].replace("-", "_")] + rest[1:]
         if name in KEPT:
             return [name.replace("-", "_") if name in ("type-inv", "well-formed") else name], rest
         # arms first: what a pattern binds

@@ -112,10 +112,10 @@ record MissGives (found : Walk) (r : Registers) (b : Buffer) (a : Access) (reply
   buffer-is : after ≡ buffer_after_miss found r b a
 
 miss-final : (found : Walk) (r : Registers) (b : Buffer) (a : Access) (value : ℕ) (reply : Reply)
-    → OneOf (1 ∷ 2 ∷ []) (tag_of the_type found) → value ≡ walk_fault found → reply ≡ answered r (Fault value) 0
+    → ((leaf : Found) → found ≡ Leaf leaf → ⊥) → value ≡ walk_fault found → reply ≡ answered r (Fault value) 0
     → MissGives found r b a reply b
 unfolding after_miss buffer_after_miss
-miss-final (Leaf f) r b a value reply k v q = absurd (⊎_elim (λ y. omega arith) (λ y. omega arith) k)
+miss-final (Leaf f) r b a value reply k v q = absurd (k f refl)
 miss-final (Absent s) r b a value reply k v q = record { reply-is = q ∙ rw v; buffer-is = refl }
 miss-final (Broken s) r b a value reply k v q = record { reply-is = q ∙ rw v; buffer-is = refl }
 
@@ -143,7 +143,7 @@ module _ (m : Machine) (a : Access) (first : Translation) (fq : first ≡ transl
           buffer-is = g.buffer-is ∙ rw (wq, vq) (sym (rw (← fq, one)));
         }
 
-    pub serve-final : (value : ℕ) → OneOf (1 ∷ 2 ∷ []) (tag_of the_type found) → value ≡ walk_fault found
+    pub serve-final : (value : ℕ) → ((leaf : Found) → found ≡ Leaf leaf → ⊥) → value ≡ walk_fault found
         → reply ≡ answered first.registers (Fault value) 0 → AccessGives m a reply m.buffer
     serve-final value k v q = serve-missed m.buffer (miss-final found first.registers m.buffer a value reply k v q)
 

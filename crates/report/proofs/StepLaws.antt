@@ -76,7 +76,7 @@ module _ (m : Machine) (p : Put) where
       go true e h = eqb-true (store_refusal m p.index) 0 e
       go false e h = let z : ◌≡◌ {A = ℕ} 0 1 = cc in absurd (omega arith)
 
-  other-words : OneOf (0 ∷ 1 ∷ 3 ∷ []) (tag_of the_type (store_reply m p).outcome)
+  other-words : ((n : ℕ) → (store_reply m p).outcome ≡ Done n → ⊥)
       → (words_after_store m p ≡ m.words) × ((change : ℤ) → store_gains (store_reply m p).outcome change ≡ [])
   unfolding store_reply words_after_store by_refusal store_gains
   other-words = go (eqb (store_refusal m p.index) 0)
@@ -84,9 +84,9 @@ module _ (m : Machine) (p : Put) where
       reply : Bool → Reply
       reply b = cond b (done m.registers (emptied (stored_words m p) m.buffer)) (refused m.registers (store_refusal m p.index))
 
-      go : (b : Bool) → OneOf (0 ∷ 1 ∷ 3 ∷ []) (tag_of the_type (reply b).outcome)
+      go : (b : Bool) → ((n : ℕ) → (reply b).outcome ≡ Done n → ⊥)
           → (cond b (stored_words m p) m.words ≡ m.words) × ((change : ℤ) → store_gains (reply b).outcome change ≡ [])
-      go true h = absurd (⊎_elim (λ e. omega arith) (λ k. ⊎_elim (λ e. omega arith) (λ e. omega arith) k) h)
+      go true h = absurd (h _ refl)
       go false h = (refl, λ change. refl)
 
 -- the old word put back
@@ -153,14 +153,14 @@ module _ (m : Machine) (index value : ℕ) (reply : Reply) (buffer : Buffer) (wo
 
   -- it was not
   pub store_nothing : (links presents : List ℕ) → Indexes m.words links presents → AllWithin totals
-      → OneOf (0 ∷ 1 ∷ 3 ∷ []) (tag_of the_type reply.outcome)
+      → ((n : ℕ) → reply.outcome ≡ Done n → ⊥)
       → CountGives (tally_step m totals (Store index value)) (record { registers = reply.registers; fits = true }) buffer words links
       presents
       totals
   unfolding tally_step booked_by gains_of step_reply words_after_step
   store_nothing links presents x all k =
       let o = other-words m (record { index = index; value = value })
-      (subst (λ (r : Reply). OneOf (0 ∷ 1 ∷ 3 ∷ []) (tag_of the_type r.outcome)) s.reply-is k) in
+      (subst (λ (r : Reply). (n : ℕ) → r.outcome ≡ Done n → ⊥) s.reply-is k) in
       let none = o.1 (leaf_change m.words (words_after_step m (Store index value))) in
       let q = books-none m.registers.context totals all in
       record {

@@ -65,9 +65,9 @@ page-lt e slot vpn15 q = vpn-at-lt slot vpn15 (subst (λ (v : ℕ). v < 2 ^ 15) 
 
 -- an entry against the walk of its page
 module _ (e : ℕ) (page : Page) (p : PageOf (unpack e) page) where
-  pub agrees-none : (found : Walk) → OneOf (1 ∷ 2 ∷ []) (tag_of the_type found) → false ≡ agrees_with_leaf found page.vpn (unpack e)
+  pub agrees-none : (found : Walk) → ((leaf : Found) → found ≡ Leaf leaf → ⊥) → false ≡ agrees_with_leaf found page.vpn (unpack e)
   unfolding agrees_with_leaf
-  agrees-none (Leaf f) k = absurd (⊎_elim (λ y. omega arith) (λ y. omega arith) k)
+  agrees-none (Leaf f) k = absurd (k f refl)
   agrees-none (Absent s) k = refl
   agrees-none (Broken s) k = refl
 

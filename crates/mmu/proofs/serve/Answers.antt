@@ -15,7 +15,7 @@ returns-in_default c = let missed = c.if-first-ne-MISS.false in
     let page = c.vpn_of-vpn.ensures in
     let walk = c.walk_page-found.ensures in
     let value = c.walk_fault-value.ensures in
-    serve-final _ _ _ c.translate-first.ensures _ _ _ missed page walk _ c.in_default.keys2 value c.answered.ensures
+    serve-final _ _ _ c.translate-first.ensures _ _ _ missed page walk _ c.in_default.not-Leaf value c.answered.ensures
 
 pub load_and_retry-requires : goal.load_and_retry-requires
 load_and_retry-requires c = first-accepted _ _ _ _ c.translate-first.ensures c.requires.0

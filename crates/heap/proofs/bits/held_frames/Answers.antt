@@ -16,12 +16,12 @@ low_bits-held-requires c = tt
 pub overflow_add-number : goal.overflow_add-number
 overflow_add-number c = let inv = c.loop-k.invariant in
     let held = c.low_bits-held in
-    omega (arith, held-le _ _ _ _ inv.1, ones-le 64 held.result held.type-inv)
+    omega (arith, held-le _ _ _ _ inv.1, ones-le 64 held.result held.type_inv)
 
 pub loop-k-preserved : goal.loop-k-preserved
 loop-k-preserved c = let inv = c.loop-k.invariant in
     let word = c.word_at in
-    (omega arith, (held-turn _ _ _ _ _ _ word.ensures word.type-inv c.low_bits-held.ensures inv.1).0)
+    (omega arith, (held-turn _ _ _ _ _ _ word.ensures word.type_inv c.low_bits-held.ensures inv.1).0)
 
 pub returns : goal.returns
 returns c = held-end _ _ _ _ c.loop-k.invariant.1 c.loop-k-test.false

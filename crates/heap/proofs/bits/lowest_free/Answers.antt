@@ -20,13 +20,13 @@ overflow_add-result c = omega (arith, c.lowest_set.ensures, trailing_le 64 c.low
 pub returns-then-free-ne0 : goal.returns-then-free-ne0
 returns-then-free-ne0 c = let word = c.word_at in
     let none = c.loop-k.invariant.1 in
-    let found = free-found _ _ _ _ _ word.ensures word.type-inv c.low_bits-free.ensures none c.if-free-ne0.true in
+    let found = free-found _ _ _ _ _ word.ensures word.type_inv c.low_bits-free.ensures none c.if-free-ne0.true in
     ap (λ (t : ℕ). 64 * c.loop-k.k + t) c.lowest_set.ensures ∙ found.0
 
 pub loop-k-preserved : goal.loop-k-preserved
 loop-k-preserved c = let word = c.word_at in
     let none = c.loop-k.invariant.1 in
-    (omega arith, none-turn _ _ _ _ _ word.ensures word.type-inv c.low_bits-free.ensures none c.if-free-ne0.false)
+    (omega arith, none-turn _ _ _ _ _ word.ensures word.type_inv c.low_bits-free.ensures none c.if-free-ne0.false)
 
 pub returns : goal.returns
 returns c = none_end _ _ _ c.loop-k.invariant.1 c.loop-k-test.false

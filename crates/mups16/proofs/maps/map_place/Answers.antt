@@ -7,7 +7,7 @@ pub overflow_mul-result : goal.overflow_mul-result
 overflow_mul-result c = omega (arith, index_in _ _ c.index_of.ensures)
 
 pub overflow_add-result : goal.overflow_add-result
-overflow_add-result c = omega (arith, index_in _ _ c.index_of.ensures, c.virtual_page.ensures, page-lt c.args.virtual-address)
+overflow_add-result c = omega (arith, index_in _ _ c.index_of.ensures, c.virtual_page.ensures, page-lt c.args.virtual_address)
 
 pub returns : goal.returns
 unfolding map_place

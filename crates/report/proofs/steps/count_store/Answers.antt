@@ -2,7 +2,7 @@ use Rattle.report.proofs.StepLaws.{store-indexed, store-counts, store_nothing}
 use Rattle.report.proofs.steps.count_store.Goals as goal
 
 pub returns-in_default : goal.returns-in_default
-returns-in_default c = store_nothing _ _ _ _ _ _ c.step-reply.ensures _ c.requires.fit _ _ c.requires.indexed c.requires.in-limit c.in_default.keys2
+returns-in_default c = store_nothing _ _ _ _ _ _ c.step-reply.ensures _ c.requires.fit _ _ c.requires.indexed c.requires.in-limit c.in_default.not-Done
 
 pub stored-requires : goal.stored-requires
 stored-requires c = store-indexed _ _ _ _ _ _ c.step-reply.ensures c.args.totals.now c.requires.fit _ c.in-Done.is _ _ _ c.requires.indexed c.word_or_zero-old.ensures

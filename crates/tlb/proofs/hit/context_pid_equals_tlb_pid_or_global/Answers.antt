@@ -5,4 +5,4 @@ use Rattle.tlb.proofs.hit.context_pid_equals_tlb_pid_or_global.Goals as goal
 
 pub returns : goal.returns
 unfolding id_matches_or_global
-returns c = λ i. compared c.args.context-pid c.page_id_of-tlb_pid.ensures i || c.is_global-global.ensures i
+returns c = λ i. compared c.args.context_pid c.page_id_of-tlb_pid.ensures i || c.is_global-global.ensures i

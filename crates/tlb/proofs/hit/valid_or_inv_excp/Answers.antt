@@ -5,4 +5,4 @@ use Rattle.tlb.proofs.hit.valid_or_inv_excp.Goals as goal
 
 pub returns : goal.returns
 unfolding valid_or_inv_exc
-returns c = ap (λ (valid : Bool). valid || c.args.inv-excp) c.is_valid-valid.ensures
+returns c = ap (λ (valid : Bool). valid || c.args.inv_excp) c.is_valid-valid.ensures
