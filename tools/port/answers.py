@@ -199,11 +199,19 @@ def tuple_parts(text):
             depth -= 1
             if depth == 0 and i != len(t) - 1:
                 return None
-        elif ch == "," and depth == 1:
+        elif ch == "," and depth == 1 and t[i + 1 : -1].strip():
             parts.append(t[start:i].strip())
             start = i + 1
-    parts.append(t[start:-1].strip())
+    parts.append(t[start:-1].strip().rstrip(","))
     return parts if len(parts) > 1 else None
+
+
+def last_tuple(text):
+    """Where the tuple begins that ends a text of lets, or 0."""
+    for m in reversed(list(re.finditer(r" in\s*(?=\()", text))):
+        if tuple_parts(text[m.end():]):
+            return m.end()
+    return 0
 
 
 def convert(root, crate, folder, names):
@@ -264,7 +272,14 @@ def convert(root, crate, folder, names):
             if len(params) != len(paths):
                 fn.problems.append(f"{what}: {len(params)} parameters, {len(paths)} variables: {' '.join(params)} / {' '.join(paths)}")
             table = dict(zip(params, paths))
+            fields = re.compile(rf"(?<=[{{;]) *{WORD} =")
+            marks = []
+            def mark(q):
+                marks.append(q[0])
+                return f"\x00{len(marks) - 1}\x01"
+            term = fields.sub(mark, term)
             term = re.sub(WORD, lambda q: table.get(q[0], q[0]), re.sub(rf"({WORD})\.(\d+|{WORD})", lambda q: f"{table.get(q[1], q[1])}.{q[2]}" if q[1] in table else q[0], term))
+            term = re.sub("\x00(\\d+)\x01", lambda q: marks[int(q[1])], term)
             new = f"{kind}-{new}"
             invariants.append((new, unfolds, term.strip()))
             continue
@@ -296,6 +311,10 @@ def convert(root, crate, folder, names):
             parts = tuple_parts(term)
             if parts and len(parts) == len(fields):
                 term = "record { " + "; ".join(f"{a} = {b}" for a, b in zip(fields, parts)) + " }"
+            elif last_tuple(term) and len(tuple_parts(term[last_tuple(term):])) == len(fields):
+                at = last_tuple(term)
+                parts = [x.rstrip(",") for x in tuple_parts(term[at:])]
+                term = term[:at] + "record { " + "; ".join(f"{a} = {b}" for a, b in zip(fields, parts)) + " }"
             else:
                 term = f"let all = {term} in record {{ " + "; ".join(f"{a} = all.{k}" for k, a in enumerate(fields)) + " }"
         answers.append((now, unfolds, term))

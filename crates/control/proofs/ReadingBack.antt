@@ -202,12 +202,12 @@ every-write-read r b value f g h =
 dumped : (r : Registers) (b : Buffer) (slot count : ℕ) → Dump r b slot (dump_from r b slot count)
 unfolding Dump dump_from
 dumped r b slot zero = tt
-dumped r b slot (suc n) = (looked r b slot, dumped _ _ (suc slot) n)
+dumped r b slot (suc n) = (looked r b slot, dumped (look_at r b slot).lo-reply.registers _ (suc slot) n)
 
 dump-length : (r : Registers) (b : Buffer) (slot count : ℕ) → length (dump_from r b slot count) ≡ count
 unfolding dump_from
 dump-length r b slot zero = refl
-dump-length r b slot (suc n) = ap suc (dump-length _ _ (suc slot) n)
+dump-length r b slot (suc n) = ap suc (dump-length (look_at r b slot).lo-reply.registers _ (suc slot) n)
 
 pub every-buffer-dumped : (r : Registers) (b : Buffer) → registers_fit r ≡ true → buffer_fits b ≡ true
     → ShowsSlots r b 0 (dump_from r b 0 64)

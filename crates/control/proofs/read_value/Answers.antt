@@ -16,4 +16,4 @@ pub returns-in-8 : goal.returns-in-8
 returns-in-8 c = reads-lo _ _ _ _ _ c.in-8.is c.slot_at-e.ensures c.lo_of.ensures
 
 pub returns-in_default : goal.returns-in_default
-returns-in_default c = reads-field _ _ _ _ c.in_default.rest.0.1 c.in_default.rest.1 c.field.ensures
+returns-in_default c = reads-field _ _ _ _ c.in_default.in_default-own.rest.0.1 c.in_default.in_default-own.rest.1 c.field.ensures

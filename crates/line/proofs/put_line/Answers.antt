@@ -27,12 +27,9 @@ put_text-requires c = end-room _ _ _
 
 pub returns : goal.returns
 unfolding ascii
-returns c = let all = let p = line-put _ _ _
+returns c = let p = line-put _ _ _
     c.args.reply
     c.requires (omega arith)
     (omega arith) _ _ c.put_head-space.ensures _ _
     c.put_text-loads.ensures _ _
-    c.put_decimal-end.ensures _ _ c.put_text.ensures in (
-      p,
-      line-room _ _ _ c.args.reply _ _ (omega arith) (omega arith) p,
-    ) in record { line = all.0; room = all.1 }
+    c.put_decimal-end.ensures _ _ c.put_text.ensures in record { line = p; room = line-room _ _ _ c.args.reply _ _ (omega arith) (omega arith) p }

@@ -47,7 +47,4 @@ shape_of-out c = c.loop-i.invariant.0.long
 
 pub returns : goal.returns
 unfolding record_count
-returns c = let all = (
-  running-all _ _ _ _ _ _ _ _ _ _ _ refl c.loop-i.invariant.0 (omega arith),
-  running-fits _ _ _ _ _ _ _ _ _ c.loop-i.invariant.0 c.requires.0,
-) in record { lines = all.0; room = all.1 }
+returns c = record { lines = running-all _ _ _ _ _ _ _ _ _ _ _ refl c.loop-i.invariant.0 (omega arith); room = running-fits _ _ _ _ _ _ _ _ _ c.loop-i.invariant.0 c.requires.0 }

@@ -6,8 +6,8 @@ use Rattle.trace.proofs.TraceLaws.{Running}
 use Rattle.trace.proofs.traces.run.Given as goal
 
 abbrev pub invariant-loop-i : goal.invariant-loop-i
-invariant-loop-i l = Running (record { l.registers = l.initial.registers; l.buffer = Wide l.initial.buffer; l.words = l.initial.words }) l.number l.input l.initial.out l.count
-    (record { l.registers = l.registers; l.buffer = Wide l.buffer; l.words = l.words }) l.out l.at l.i
+invariant-loop-i l = Running (record { registers = l.initial.registers; buffer = Wide l.initial.buffer; words = l.initial.words }) l.number l.input l.initial.out l.count
+    (record { registers = l.registers; buffer = Wide l.buffer; words = l.words }) l.out l.at l.i
     × (length l.buffer ≡ length l.initial.buffer) × (length l.words ≡ length l.initial.words)
 
 abbrev pub decreases-loop-i : goal.decreases-loop-i
