@@ -66,8 +66,8 @@ module _ (words : List ℕ) (id root : ℕ) (wq : root ≡ get_or words id 0) (b
     )
 
 -- a pool of code that fits: its array has 64 words
-pub whole-pool : (p : Pool) → length (map (λ (v : ℕ). v) p.bits) ≡ 64 → pool_fits p ≡ true → Sound p
-whole-pool p e fits = record { all_words = sym (length-map p.bits (λ (v : ℕ). v)) ∙ e; fits = fits }
+pub whole-pool : (p : Pool) → length p.bits ≡ 64 → pool_fits p ≡ true → Sound p
+whole-pool p e fits = record { all_words = e; fits = fits }
 
 -- number 12
 module _ (words : List ℕ) (p : Pool) (id : ℕ) (t : Bool) (tq : t ≡ tree_fits words id) where
