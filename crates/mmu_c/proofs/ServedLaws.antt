@@ -74,7 +74,7 @@ module _ (r : Registers) (buffer tables run : List ℕ) (a : Access) (first : Tr
 
   module _ (reply : Reply) (vpn : ℕ) (found : Walk) (h : first.value ≡ 8) (vq : vpn ≡ vpn_of a.address)
       (wq : found ≡ walk_page (words_of tables) r.context vpn) where
-    pub final : (value : ℕ) → OneOf (1 ∷ 2 ∷ []) (tag_of the_type found) → value ≡ walk_fault found
+    pub final : (value : ℕ) → ((leaf : Found) → found ≡ Leaf leaf → ⊥) → value ≡ walk_fault found
         → reply ≡ answered first.registers (Fault value) 0 → AccessGivesBytes (machine r buffer tables) a reply buffer
     final value k v q = same_bytes reply (serve-final (machine r buffer tables) a first fq reply vpn found h vq wq value k v q)
 

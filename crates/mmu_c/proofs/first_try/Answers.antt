@@ -6,11 +6,7 @@ translate-requires c = run-accepted _ _ _ _ _ c.vpn_of-vpn.ensures
     c.fetch.ensures c.requires.0
 
 pub returns : goal.returns
-returns c = let all = (
-  tried _ _ _ _ _ c.vpn_of-vpn.ensures
-      c.fetch.ensures
-      c.requires.0 _ c.translate.ensures,
-  fetched-page _ _ _ _ _
-      c.vpn_of-vpn.ensures c.fetch.ensures
-      c.requires.0,
-) in record { answer = all.0; slots = all.1 }
+returns c = record {
+  answer = tried _ _ _ _ _ c.vpn_of-vpn.ensures c.fetch.ensures c.requires.0 _ c.translate.ensures;
+  slots = fetched-page _ _ _ _ _ c.vpn_of-vpn.ensures c.fetch.ensures c.requires.0;
+}

@@ -5,4 +5,4 @@ pub returns-then-bytes-ne-REGISTER_BYTES : goal.returns-then-bytes-ne-REGISTER_B
 returns-then-bytes-ne-REGISTER_BYTES c = taken-other _ c.if-bytes-ne-REGISTER_BYTES.true
 
 pub returns : goal.returns
-returns c = taken-long _ _ _ c.if-bytes-ne-REGISTER_BYTES.false c.registers_of-r.ensures c.registers_fit.ensures
+returns c = taken-long _ _ _ c.if-bytes-ne-REGISTER_BYTES.false c.registers_of-r.ensures.registers c.registers_fit.ensures

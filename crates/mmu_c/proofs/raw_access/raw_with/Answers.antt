@@ -7,16 +7,16 @@ returns-then-registers-ne-REGISTER_BYTES c = refused _ _ _ _ (refusal-short _ _ 
 
 pub refusal_answer-requires-then-refusal-ne0 : goal.refusal_answer-requires-then-refusal-ne0
 refusal_answer-requires-then-refusal-ne0 c = let q = refusal-long _ _ c.args.a _ _
-    c.if-registers-ne-REGISTER_BYTES.false c.registers_of-r.ensures c.raw_refusal-refusal.ensures in
+    c.if-registers-ne-REGISTER_BYTES.false c.registers_of-r.ensures.registers c.raw_refusal-refusal.ensures in
     refusal-lt _ _ _ _ q
 
 pub returns-then-refusal-ne0 : goal.returns-then-refusal-ne0
-returns-then-refusal-ne0 c = let q = refusal-long _ _ _ _ _ c.if-registers-ne-REGISTER_BYTES.false c.registers_of-r.ensures c.raw_refusal-refusal.ensures in
+returns-then-refusal-ne0 c = let q = refusal-long _ _ _ _ _ c.if-registers-ne-REGISTER_BYTES.false c.registers_of-r.ensures.registers c.raw_refusal-refusal.ensures in
     refused _ _ _ _ q _ c.if-refusal-ne0.true c.refusal_answer-then-refusal-ne0.ensures
 
 pub first_try-t-requires : goal.first_try-t-requires
-first_try-t-requires c = let q = refusal-long _ _ _ _ _ c.if-registers-ne-REGISTER_BYTES.false c.registers_of-r.ensures c.raw_refusal-refusal.ensures in (
-      accepted _ _ _ _ q c.if-refusal-ne0.false _ c.registers_of-r.ensures,
+first_try-t-requires c = let q = refusal-long _ _ _ _ _ c.if-registers-ne-REGISTER_BYTES.false c.registers_of-r.ensures.registers c.raw_refusal-refusal.ensures in (
+      accepted _ _ _ _ q c.if-refusal-ne0.false _ c.registers_of-r.ensures.registers,
       (lengths _ _ _ _ q c.if-refusal-ne0.false).1,
       c.requires,
     )
@@ -25,10 +25,9 @@ pub translation_answer-requires : goal.translation_answer-requires
 translation_answer-requires c = value_room _ _ _ _ c.first_try-t.ensures.answer
 
 pub returns-then-not-t : goal.returns-then-not-t
-returns-then-not-t c = let q = refusal-long _ _ _ _ _ c.if-registers-ne-REGISTER_BYTES.false c.registers_of-r.ensures c.raw_refusal-refusal.ensures in
-    let byte = c.slice_known-1.given in
-    plain-tried _ _ _ _ q _ _ c.if-refusal-ne0.false c.registers_of-r.ensures c.first_try-t.ensures.answer _
-    (λ i l. omega (arith, byte i)) c.if-not-t.true c.translation_answer.ensures
+returns-then-not-t c = let q = refusal-long _ _ _ _ _ c.if-registers-ne-REGISTER_BYTES.false c.registers_of-r.ensures.registers c.raw_refusal-refusal.ensures in
+    plain-tried _ _ _ _ q _ _ c.if-refusal-ne0.false c.registers_of-r.ensures.registers c.first_try-t.ensures.answer _
+    c.registers_of-r.ensures.bytes c.if-not-t.true c.translation_answer.ensures
 
 pub put_registers-requires : goal.put_registers-requires
 put_registers-requires c = c.if-registers-ne-REGISTER_BYTES.false
@@ -38,6 +37,6 @@ translation_answer-requires-2 c = value_room _ _ _ _
     c.first_try-t.ensures.answer
 
 pub returns : goal.returns
-returns c = let q = refusal-long _ _ _ _ _ c.if-registers-ne-REGISTER_BYTES.false c.registers_of-r.ensures c.raw_refusal-refusal.ensures in
-    tried _ _ _ _ q _ _ c.if-refusal-ne0.false c.registers_of-r.ensures c.first_try-t.ensures.answer _ _
+returns c = let q = refusal-long _ _ _ _ _ c.if-registers-ne-REGISTER_BYTES.false c.registers_of-r.ensures.registers c.raw_refusal-refusal.ensures in
+    tried _ _ _ _ q _ _ c.if-refusal-ne0.false c.registers_of-r.ensures.registers c.first_try-t.ensures.answer _ _
     c.put_registers.ensures c.translation_answer-2.ensures

@@ -16,7 +16,7 @@ returns-in_default c = let missed = c.if-first-ne-MISS.false in
     let page = c.vpn_of-vpn.ensures in
     let walk = c.walk_page-found.ensures in
     let value = c.walk_fault-value.ensures in
-    final _ _ _ _ _ _ c.requires.3 c.requires.4 c.requires.1 _ _ _ missed page walk _ c.in_default.in_default-own.keys2 value
+    final _ _ _ _ _ _ c.requires.3 c.requires.4 c.requires.1 _ _ _ missed page walk _ c.in_default.not-Leaf value
     c.answered.ensures
 
 pub load_and_retry-reply-requires : goal.load_and_retry-reply-requires

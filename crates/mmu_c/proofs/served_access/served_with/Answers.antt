@@ -9,18 +9,18 @@ returns-then-registers-ne-REGISTER_BYTES c = refused _ _ _ _ _ (refusal-short _ 
 
 pub refusal_answer-requires-then-refusal-ne0 : goal.refusal_answer-requires-then-refusal-ne0
 refusal_answer-requires-then-refusal-ne0 c = let q = refusal-long _ _ _ c.args.a _ _
-    c.if-registers-ne-REGISTER_BYTES.false c.registers_of-r.ensures c.served_refusal-refusal.ensures in
+    c.if-registers-ne-REGISTER_BYTES.false c.registers_of-r.ensures.registers c.served_refusal-refusal.ensures in
     refusal-lt _ _ _ _ _ q
 
 pub returns-then-refusal-ne0 : goal.returns-then-refusal-ne0
-returns-then-refusal-ne0 c = let q = refusal-long _ _ _ _ _ _ c.if-registers-ne-REGISTER_BYTES.false c.registers_of-r.ensures
+returns-then-refusal-ne0 c = let q = refusal-long _ _ _ _ _ _ c.if-registers-ne-REGISTER_BYTES.false c.registers_of-r.ensures.registers
     c.served_refusal-refusal.ensures in
     refused _ _ _ _ _ q _ c.if-refusal-ne0.true c.refusal_answer-then-refusal-ne0.ensures
 
 pub first_try-first-requires : goal.first_try-first-requires
-first_try-first-requires c = let q = refusal-long _ _ _ _ _ _ c.if-registers-ne-REGISTER_BYTES.false c.registers_of-r.ensures
+first_try-first-requires c = let q = refusal-long _ _ _ _ _ _ c.if-registers-ne-REGISTER_BYTES.false c.registers_of-r.ensures.registers
     c.served_refusal-refusal.ensures in (
-      accepted _ _ _ _ _ q c.if-refusal-ne0.false _ c.registers_of-r.ensures,
+      accepted _ _ _ _ _ q c.if-refusal-ne0.false _ c.registers_of-r.ensures.registers,
       (lengths _ _ _ _ _ q c.if-refusal-ne0.false).1,
       c.requires,
     )
@@ -29,18 +29,17 @@ pub translation_answer-requires : goal.translation_answer-requires
 translation_answer-requires c = value_room _ _ _ _ c.first_try-first.ensures.answer
 
 pub returns-then-not-first : goal.returns-then-not-first
-returns-then-not-first c = let q = refusal-long _ _ _ _ _ _ c.if-registers-ne-REGISTER_BYTES.false c.registers_of-r.ensures
+returns-then-not-first c = let q = refusal-long _ _ _ _ _ _ c.if-registers-ne-REGISTER_BYTES.false c.registers_of-r.ensures.registers
     c.served_refusal-refusal.ensures in
-    let byte = c.slice_known-1.given in
-    plain-served _ _ _ _ _ q c.if-refusal-ne0.false _ _ _ c.registers_of-r.ensures
+    plain-served _ _ _ _ _ q c.if-refusal-ne0.false _ _ _ c.registers_of-r.ensures.registers
     c.first_try-first.ensures.answer
-    c.first_try-first.ensures.slots (λ i l. omega (arith, byte i)) c.if-not-first.true _ c.translation_answer.ensures
+    c.first_try-first.ensures.slots c.registers_of-r.ensures.bytes c.if-not-first.true _ c.translation_answer.ensures
 
 pub serve-reply-requires : goal.serve-reply-requires
-serve-reply-requires c = let q = refusal-long _ _ _ _ _ _ c.if-registers-ne-REGISTER_BYTES.false c.registers_of-r.ensures
+serve-reply-requires c = let q = refusal-long _ _ _ _ _ _ c.if-registers-ne-REGISTER_BYTES.false c.registers_of-r.ensures.registers
     c.served_refusal-refusal.ensures in
     let l = lengths _ _ _ _ _ q c.if-refusal-ne0.false in (
-      accepted _ _ _ _ _ q c.if-refusal-ne0.false _ c.registers_of-r.ensures,
+      accepted _ _ _ _ _ q c.if-refusal-ne0.false _ c.registers_of-r.ensures.registers,
       l.1,
       l.2,
       c.first_try-first.ensures.answer,
@@ -54,8 +53,8 @@ pub reply_answer-requires : goal.reply_answer-requires
 reply_answer-requires c = reply-fits _ _ _ _ c.serve-reply.ensures
 
 pub returns : goal.returns
-returns c = let q = refusal-long _ _ _ _ _ _ c.if-registers-ne-REGISTER_BYTES.false c.registers_of-r.ensures
+returns c = let q = refusal-long _ _ _ _ _ _ c.if-registers-ne-REGISTER_BYTES.false c.registers_of-r.ensures.registers
     c.served_refusal-refusal.ensures in
     served _ _ _ _ _ q c.if-refusal-ne0.false _ _ _
-    c.registers_of-r.ensures c.serve-reply.ensures _ _
+    c.registers_of-r.ensures.registers c.serve-reply.ensures _ _
     c.put_registers.ensures c.reply_answer.ensures

@@ -1,4 +1,6 @@
-use mathlib.Core.Path.{refl}
+use mathlib.Core.Bool.{not}
+use mathlib.Core.Path.{refl, ap}
+use borrow.Author.Tests.{lt-ltb, le-ltb}
 use Rattle.registers.proofs.RefusalLaws.{refuse-here, refuse-later, machine-refused, machine-later}
 use Rattle.mmu_c.specs.TableStore.{store_refusal}
 use Rattle.mmu_c.proofs.RunLaws.{index-test}
@@ -12,9 +14,9 @@ returns-then-early-ne0 c = machine-refused _ _ _ _ _ _ c.registers_taken.ensures
 pub returns-then-not-index_fits : goal.returns-then-not-index_fits
 unfolding store_refusal
 returns-then-not-index_fits c = machine-later _ _ _ _ _ _ c.registers_taken.ensures c.buffer_taken.ensures c.tables_taken.ensures _ c.machine_refusal-early.ensures _ _
-    c.if-early-ne0.false (refuse-here _ _ _ _ (index-test _ _) c.if-not-index_fits.true-raw)
+    c.if-early-ne0.false (refuse-here _ _ _ _ (index-test _ _) (ap not (le-ltb _ _ c.if-not-index_fits.true)))
 
 pub returns : goal.returns
 unfolding store_refusal
 returns c = machine-later _ _ _ _ _ _ c.registers_taken.ensures c.buffer_taken.ensures c.tables_taken.ensures _ c.machine_refusal-early.ensures _ _
-    c.if-early-ne0.false (refuse-later _ _ _ _ (index-test _ _) _ c.if-not-index_fits.false-raw refl)
+    c.if-early-ne0.false (refuse-later _ _ _ _ (index-test _ _) _ (ap not (lt-ltb _ _ c.if-not-index_fits.false)) refl)

@@ -21,7 +21,7 @@ decode64-requires c = omega (
 
 pub rewrite-emptied-requires : goal.rewrite-emptied-requires
 rewrite-emptied-requires c = let n = lengths _ _ _ _ _ c.store_refusal-refusal.ensures c.if-refusal-ne0.false in (
-      run_fits _ (c.decode64.auto.1.0
+      run_fits _ (c.decode64.auto.numbers
           ∙ c.requires),
       n.1,
       n.2,
@@ -32,7 +32,7 @@ encode64-requires c = let n = lengths _ _ _ _ _ c.store_refusal-refusal.ensures
     c.if-refusal-ne0.false in omega (
       arith,
       n.0,
-      c.rewrite-emptied.auto.0 ∙ c.decode64.auto.1.0
+      c.rewrite-emptied.auto.buffer ∙ c.decode64.auto.numbers
           ∙ c.requires,
     )
 
