@@ -2,12 +2,10 @@
 use Prim.Native.Nat.{ℕ, ◌+◌, ◌≤◌, ◌<◌}
 use mathlib.Core.Path.{◌≡◌, refl, sym, ap, ◌∙◌, subst}
 use mathlib.Core.Bool.{Bool, true, false, not, cond}
-use mathlib.Core.List.{List, [], ◌∷◌}
+use mathlib.Core.List.{List}
 use native.Mathlib.Omega.{arith}
 use lib.ListN.{length}
 use borrow.Author.Tests.{lt-ltb, not-true}
-use types.Run.{OneOf}
-use denote.Enum.Declared.{tag_of}
 use Rattle.wire.specs.Wire.{AreBytes}
 use Rattle.entry.specs.Address.{vpn_of}
 use Rattle.registers.specs.Fields.{registers_fit}
@@ -24,7 +22,6 @@ use Rattle.page_table.proofs.FaultLaws.{place-lt}
 use Rattle.page_table.specs.declared.Found.{Found}
 use Rattle.page_table.specs.declared.Walk.{Walk}
 use Rattle.page_table.specs.declared.Walk.TheVariants.{Leaf, Absent, Broken}
-use Rattle.page_table.specs.contracts.Walk.{the_type}
 use Rattle.slots.specs.Buffer.{Buffer}
 use Rattle.slots.specs.Buffer.Buffer.{Wide}
 use Rattle.access.specs.Translation.{Accepted, no_exception, translate}

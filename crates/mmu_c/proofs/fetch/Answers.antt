@@ -1,4 +1,3 @@
-use Prim.Native.Nat.{◌-◌}
 use mathlib.Core.Path.{◌∙◌, sym}
 use native.Mathlib.Omega.{arith}
 use Rattle.mmu_c.proofs.Locations.{slot-inside, fetch-none, fetch-more, fetch-all}

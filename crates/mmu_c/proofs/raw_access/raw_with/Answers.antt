@@ -16,10 +16,10 @@ returns-then-refusal-ne0 c = let q = refusal-long _ _ _ _ _ c.if-registers-ne-RE
 
 pub first_try-t-requires : goal.first_try-t-requires
 first_try-t-requires c = let q = refusal-long _ _ _ _ _ c.if-registers-ne-REGISTER_BYTES.false c.registers_of-r.ensures.registers c.raw_refusal-refusal.ensures in (
-      accepted _ _ _ _ q c.if-refusal-ne0.false _ c.registers_of-r.ensures.registers,
-      (lengths _ _ _ _ q c.if-refusal-ne0.false).1,
-      c.requires,
-    )
+  accepted _ _ _ _ q c.if-refusal-ne0.false _ c.registers_of-r.ensures.registers,
+  (lengths _ _ _ _ q c.if-refusal-ne0.false).1,
+  c.requires,
+)
 
 pub translation_answer-requires : goal.translation_answer-requires
 translation_answer-requires c = value_room _ _ _ _ c.first_try-t.ensures.answer

@@ -16,11 +16,11 @@ returns-then-not-buffer_taken c = refused _ _ 2 _
 
 pub encode64-requires : goal.encode64-requires
 encode64-requires c = omega (
-      arith,
-      buffer-told _ (sym c.buffer_taken.ensures ∙ c.if-not-buffer_taken.false),
-      c.start-reply.auto.buffer,
-      c.requires,
-    )
+  arith,
+  buffer-told _ (sym c.buffer_taken.ensures ∙ c.if-not-buffer_taken.false),
+  c.start-reply.auto.buffer,
+  c.requires,
+)
 
 pub returns : goal.returns
 returns c = started _ _ _ _ _ _ _

@@ -13,19 +13,19 @@ returns-then-refusal-ne0 c = refused _ _ _ _ _ c.store_refusal-refusal.ensures _
 
 pub decode64-requires : goal.decode64-requires
 decode64-requires c = omega (
-      arith,
-      (lengths _ _ _ _ _ c.store_refusal-refusal.ensures
-          c.if-refusal-ne0.false).0,
-      c.requires,
-    )
+  arith,
+  (lengths _ _ _ _ _ c.store_refusal-refusal.ensures
+      c.if-refusal-ne0.false).0,
+  c.requires,
+)
 
 pub rewrite-emptied-requires : goal.rewrite-emptied-requires
 rewrite-emptied-requires c = let n = lengths _ _ _ _ _ c.store_refusal-refusal.ensures c.if-refusal-ne0.false in (
-      run_fits _ (c.decode64.auto.numbers
-          ∙ c.requires),
-      n.1,
-      n.2,
-    )
+  run_fits _ (c.decode64.auto.numbers
+      ∙ c.requires),
+  n.1,
+  n.2,
+)
 
 pub encode64-requires : goal.encode64-requires
 encode64-requires c = let n = lengths _ _ _ _ _ c.store_refusal-refusal.ensures
