@@ -2,12 +2,10 @@
 use Prim.Native.Nat.{ℕ, ◌+◌, ◌≤◌, ◌<◌}
 use mathlib.Core.Path.{◌≡◌, refl, sym, ap, ◌∙◌, subst}
 use mathlib.Core.Bool.{Bool, true, false, not, cond}
-use mathlib.Core.List.{List, [], ◌∷◌}
+use mathlib.Core.List.{List}
 use native.Mathlib.Omega.{arith}
 use lib.ListN.{length}
 use borrow.Author.Tests.{lt-ltb, not-true}
-use types.Run.{OneOf}
-use denote.Enum.Declared.{tag_of}
 use Rattle.wire.specs.Wire.{AreBytes}
 use Rattle.entry.specs.Address.{vpn_of}
 use Rattle.registers.specs.Fields.{registers_fit}
@@ -24,7 +22,6 @@ use Rattle.page_table.proofs.FaultLaws.{place-lt}
 use Rattle.page_table.specs.declared.Found.{Found}
 use Rattle.page_table.specs.declared.Walk.{Walk}
 use Rattle.page_table.specs.declared.Walk.TheVariants.{Leaf, Absent, Broken}
-use Rattle.page_table.specs.contracts.Walk.{the_type}
 use Rattle.slots.specs.Buffer.{Buffer}
 use Rattle.slots.specs.Buffer.Buffer.{Wide}
 use Rattle.access.specs.Translation.{Accepted, no_exception, translate}
@@ -74,7 +71,7 @@ module _ (r : Registers) (buffer tables run : List ℕ) (a : Access) (first : Tr
 
   module _ (reply : Reply) (vpn : ℕ) (found : Walk) (h : first.value ≡ 8) (vq : vpn ≡ vpn_of a.address)
       (wq : found ≡ walk_page (words_of tables) r.context vpn) where
-    pub final : (value : ℕ) → OneOf (1 ∷ 2 ∷ []) (tag_of the_type found) → value ≡ walk_fault found
+    pub final : (value : ℕ) → ((leaf : Found) → found ≡ Leaf leaf → ⊥) → value ≡ walk_fault found
         → reply ≡ answered first.registers (Fault value) 0 → AccessGivesBytes (machine r buffer tables) a reply buffer
     final value k v q = same_bytes reply (serve-final (machine r buffer tables) a first fq reply vpn found h vq wq value k v q)
 

@@ -4,8 +4,7 @@ ghost use Rattle.mmu_c.specs.GuardedSetting.{GuardedSettingGives};
 use registers::refusals;
 
 // Sets a guarded register.
-#[unsafe(no_mangle)]
-pub extern "C" fn mmu_guarded_setting(registers: &mut [u8], number: u32, value: u32) -> u64
+pub fn mmu_guarded_setting(registers: &mut [u8], number: u32, value: u32) -> u64
     ensures { GuardedSettingGives registers.old number value result registers.new }
 {
     if registers.len() != crate::REGISTER_BYTES {

@@ -9,6 +9,7 @@ pub mod table_store;
 
 ghost use Rattle.std.specs.Prelude.{true, ◌≡◌, ◌^◌, ◌≤◌, ◌<◌, length};
 ghost use Rattle.runs.specs.Bits.{bit};
+ghost use Rattle.wire.specs.Wire.{AreBytes};
 ghost use Rattle.entry.specs.Address.{vpn_of};
 ghost use Rattle.access.specs.Translation.{Accepted, translate};
 ghost use Rattle.mmu_c.specs.Answers.{access_answer, outcome_fits, refusal_answer, reply_answer, translation_answer};
@@ -104,7 +105,8 @@ fn reply_answer(reply: Reply) -> u64
 
 fn registers_of(bytes: &[u8]) -> Registers
     requires { length bytes.now ≡ REGISTER_BYTES }
-    ensures { result ≡ registers_of bytes.now }
+    ensures registers { result ≡ registers_of bytes.now }
+    ensures bytes { AreBytes bytes.now }
 {
     let mut words = [0u32; 11];
     wire::decode32(bytes, &mut words);

@@ -44,8 +44,7 @@ fn raw_with(registers: &mut [u8], buffer: &[u8], slots: &mut [u64], a: Access) -
 }
 
 // One raw access.
-#[unsafe(no_mangle)]
-pub extern "C" fn mmu_raw_access(
+pub fn mmu_raw_access(
     registers: &mut [u8],
     buffer: &[u8],
     address: u32,

@@ -105,8 +105,7 @@ fn served_with(
 }
 
 // One served access.
-#[unsafe(no_mangle)]
-pub extern "C" fn mmu_served_access(
+pub fn mmu_served_access(
     registers: &mut [u8],
     buffer: &mut [u8],
     tables: &[u8],

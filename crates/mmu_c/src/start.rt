@@ -22,8 +22,7 @@ fn start_with(registers: &mut [u8], buffer: &mut [u8], slots: &mut [u64]) -> u64
 }
 
 // Makes all registers 0 and every slot empty.
-#[unsafe(no_mangle)]
-pub extern "C" fn mmu_start(registers: &mut [u8], buffer: &mut [u8]) -> u64
+pub fn mmu_start(registers: &mut [u8], buffer: &mut [u8]) -> u64
     ensures { StartGives registers.old buffer.old result registers.new buffer.new }
 {
     let mut slots = [0u64; 64];

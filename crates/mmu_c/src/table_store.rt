@@ -45,8 +45,7 @@ fn store_with(
 }
 
 // Writes one word of the page tables and judges every slot anew.
-#[unsafe(no_mangle)]
-pub extern "C" fn mmu_table_store(
+pub fn mmu_table_store(
     registers: &[u8],
     buffer: &mut [u8],
     tables: &mut [u8],

@@ -1,0 +1,28 @@
+use mathlib.Core.Bool.{not}
+use mathlib.Core.Path.{refl, ap, sym, ◌∙◌}
+use native.Mathlib.Omega.{arith}
+use Rattle.registers.proofs.RefusalLaws.{refuse-here, refuse-later}
+use Rattle.mmu_c.proofs.RunLaws.{buffer-told}
+use Rattle.mmu_c.proofs.StartLaws.{short, long, refused, started}
+use Rattle.mmu_c.proofs.start.start_with.Goals as goal
+
+pub returns-then-registers-ne-REGISTER_BYTES : goal.returns-then-registers-ne-REGISTER_BYTES
+returns-then-registers-ne-REGISTER_BYTES c = refused _ _ 1 _ (short _ _ c.if-registers-ne-REGISTER_BYTES.true) (λ e. omega arith) c.refusal_answer.ensures
+
+pub returns-then-not-buffer_taken : goal.returns-then-not-buffer_taken
+returns-then-not-buffer_taken c = refused _ _ 2 _
+    (long _ _ 2 c.if-registers-ne-REGISTER_BYTES.false (refuse-here _ _ _ _ c.buffer_taken.ensures (ap not c.if-not-buffer_taken.true)))
+    (λ e. omega arith) c.refusal_answer-then-not-buffer_taken.ensures
+
+pub encode64-requires : goal.encode64-requires
+encode64-requires c = omega (
+  arith,
+  buffer-told _ (sym c.buffer_taken.ensures ∙ c.if-not-buffer_taken.false),
+  c.start-reply.auto.buffer,
+  c.requires,
+)
+
+pub returns : goal.returns
+returns c = started _ _ _ _ _ _ _
+    (long _ _ 0 c.if-registers-ne-REGISTER_BYTES.false (refuse-later _ _ _ _ c.buffer_taken.ensures _ (ap not c.if-not-buffer_taken.false) refl))
+    c.requires c.start-reply.ensures c.put_registers.ensures c.encode64.ensures
