@@ -197,10 +197,10 @@ cannot_build() {
 
 # Where out/ or a temporary folder cannot be made there is one sentence.
 unmade_folders() {
-    local out=$repository/crates/mmutrace/out
-    local sentence="$out is no folder: remove it, and call again"
-    fresh && touch "$out" && cannot_build "$sentence" &&
-        fresh && ln -s nowhere "$out" && cannot_build "$sentence" &&
+    local made=$repository/crates/mmutrace/out
+    local sentence="$made is no folder: remove it, and call again"
+    fresh && touch "$made" && cannot_build "$sentence" &&
+        fresh && ln -s nowhere "$made" && cannot_build "$sentence" &&
         fresh && cannot_build "no temporary folder can be made in $work/missing" env TMPDIR="$work/missing" && runs 1
 }
 
