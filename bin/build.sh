@@ -15,7 +15,7 @@ lock() {
     if ! command -v flock >/dev/null; then
         say "flock is not on the path, so start no other call before this build has ended"
     elif ! flock -n 9; then
-        say "waiting for another call's build, whose log is in $root/$target"
+        say "waiting for another call's build, whose log is in $root/$logs"
         flock 9 &
         wait "$!" || say "the lock failed, so start no other call before this build has ended"
     fi
@@ -42,14 +42,12 @@ build() {
     return 1
 }
 
-# Marks the build, and makes a folder for temporary files: a prover that is killed leaves some. The kit runs a program
-# there as nobody, who must reach it.
+# Marks the build, and makes a folder for temporary files: a prover that is killed leaves some.
 begin() {
     building=yes
-    tidy
     if ! touch "$mark"; then
         say "$program is to be built, but no file can be made in $root/$target"
-    elif ! { room=$(mktemp -d) && chmod 711 "$room"; } 2>/dev/null; then
+    elif ! room=$(mktemp -d) 2>/dev/null; then
         say "$program is to be built, but no temporary folder can be made in ${TMPDIR:-/tmp}"
     else
         TMPDIR=$room
@@ -59,17 +57,10 @@ begin() {
     return 1
 }
 
-# Removes libraries that rt began and did not finish, as it has no stamp for them: it would stumble over half a one.
-tidy() {
-    [ -d "$target/stamp" ] || return 0
-    for library in "$target"/rlib/*; do
-        crate=${library##*/}
-        [ -e "$target/stamp/${crate%%.*}" ] || rm -rf "$library"
-    done
-}
-
+# rt proves, builds and runs a program in one, here on no input, where each of these programs ends well and writes
+# nothing.
 by_rt() {
-    rt check "$name"
+    (cd "crates/$name" && rt run)
 }
 
 # cargo goes by times of modification alone, so it is made to compile all of the package. A server that it may start
@@ -86,56 +77,65 @@ cargo_on() {
 # Says what is built and how long it takes.
 announce() {
     if [ "$tool" = rt ]; then
-        total=$(crates_below)
-        say "$program is proved and built first: $total crates, about $usual on two cores where none is proved yet"
+        places=$(crates_below)
+        total=$(printf '%s\n' "$places" | wc -l)
+        total=$((total))
+        say "$program is proved and built first: $total crates, some minutes where none is proved yet"
     else
-        say "$program is built first: $usual"
+        say "$program is built first: a few seconds"
     fi
 }
 
-# How many crates of crates.txt the program stands on, itself among them. Libraries of the kit are not listed there.
+# The crates of crates.txt that the program stands on, itself the last, in the order in which rt proves them: a line
+# 'NUMBER NAME' for each. Libraries of the kit are not listed there, and behind a name there may be more words.
 crates_below() {
     awk -v program="$name" '
-        function count(crate, words, n, i, sum) {
-            if (!(crate in needs) || crate in seen) return 0
+        function visit(crate, words, n, i) {
+            if (!(crate in needs) || crate in seen) return
             seen[crate] = 1
-            sum = 1
             n = split(needs[crate], words, " ")
-            for (i = 1; i <= n; i++) sum += count(words[i])
-            return sum
+            for (i = 1; i <= n; i++) visit(words[i])
+            print ++place, crate
         }
         { sub(/#.*/, "") }
-        split($0, part, ":") == 2 { gsub(/[ \t]/, "", part[1]); needs[part[1]] = part[2] }
-        END { print count(program) }
+        split($0, part, ":") == 2 && split(part[1], head, " ") { needs[head[1]] = part[2] }
+        END { visit(program) }
     ' crates.txt
 }
 
-# Writes what the tool says to the log, and shows a line for each crate that it proves: those that stay proved are
-# counted only. The last line has the tool's exit status, and this ends with it.
+# Writes what the tool says to the log, and shows a line for each crate that it proves, with the crate's place among
+# all: rt says nothing of those that stay proved. It shows too what rt waits for. The last line has the tool's exit
+# status, and this ends with it.
 follow() {
-    proved=0 ended=2
+    crate='' ended=2
     while IFS= read -r line; do
         case $line in
             'ended '*)
                 ended=${line#ended }
                 continue
                 ;;
-            'rt: '*' proved (unchanged '*) proved=$((proved + 1)) ;;
-            'rt: '*' proved ('*)
-                proved=$((proved + 1))
-                crate=${line#rt: }
-                say "$proved/$total ${crate%% *}"
+            'crate '*': modules '*)
+                crate=${line#crate }
+                crate=${crate%%:*}
                 ;;
+            logic=proved*) proved "$crate" ;;
+            'rt: '*waiting\ for\ *) say "${line#rt: }" ;;
         esac
         printf '%s\n' "$line"
     done >"$log"
     return "$ended"
 }
 
-# Leaves the program so that the next call has it built again. It is not removed: rt would not make it anew where
-# nothing changed.
+# proved CRATE: shows it, where it is one of those that the program stands on.
+proved() {
+    [ "$tool" = rt ] || return 0
+    place=$(printf '%s\n' "$places" | grep -x "[0-9]* $1") || return 0
+    say "${place%% *}/$total $1"
+}
+
+# Removes the program, so that the next call has it built again.
 forget() {
-    [ ! -e "$program" ] || touch -t 197001020000 "$program" || :
+    rm -f "$program"
     clear_up
 }
 
@@ -152,12 +152,11 @@ show_failure() {
     say "the build of $program failed, so it is not run: $root/$log has all that $tool said"
 }
 
-# The lines of the log that say what failed, the causes first: not those about crates that only stand on one that
-# failed.
+# The lines of the log that say what failed, the causes first: of what rt says itself, not what it chose or began.
 failures() {
     causes <"$log"
     causes -v <"$log" | grep -e ': not proved$' -e '^rt: ' |
-        grep -v -e ' proved (' -e '^rt: FAILED:' -e ': its dependency '
+        grep -v -e '^rt: chose ' -e '^rt: running ' -e ': begins with ' -e 'waiting for '
 }
 
 # causes [-v]: of the lines on standard input those that name a cause, or the others.
@@ -172,7 +171,6 @@ stop() {
     wait
     if [ -n "$building" ]; then
         forget
-        tidy
         rm -f "$log"
     fi
     exit 2
@@ -187,7 +185,7 @@ cannot() {
 }
 
 cd "$root" || exit 2
-for source in $sources; do
+for source in $needed; do
     [ -e "$source" ] || refuse "$program is to be built, but there is no $root/$source: call a script of a whole repository, or a link to it"
 done
 command -v "$tool" >/dev/null || cannot "$tool is not on the path"

@@ -9,20 +9,22 @@ FOLDER="this is a folder, not a trace"
 # So many bytes of a file are looked at.
 FIRST_BYTES=64
 
-# describe NAME: sets what is known of a program. Paths are from the root. Programs that are built in one target/ have
-# one lock: a file that is always there, and that goes neither with target/ nor with an edit of the sources.
+# describe NAME: sets what is known of a program. Paths are from the root: `target` is where the tool leaves what it
+# makes, and `sources` is what the program is made from, as patterns. Programs that stand on the same crates have one
+# lock: a file that is always there, and that goes neither with what is built nor with an edit of the sources.
 describe() {
     name=$1
     if [ "$name" = tracetext ]; then
         package=tools/tracetext
-        tool=cargo target=$package/target lock_file=bin/tracetext usual="a few seconds"
+        tool=cargo target=$package/target lock_file=bin/tracetext
         program=$target/release/tracetext
-        sources="$package/Cargo.toml $package/Cargo.lock $package/src"
+        needed="$package/Cargo.toml $package/Cargo.lock $package/src"
+        sources=$needed logs=$target
     else
-        tool=rt target=target lock_file=bin/build.sh usual="two minutes"
-        [ "$name" = mmutrace ] || usual="three minutes"
-        program=$target/bin/$name
-        sources="crates crates.txt"
+        tool=rt target=crates/$name/out logs='crates/*/out' lock_file=bin/build.sh
+        program=$target/$name
+        needed="crates crates.txt crates/$name"
+        sources="crates.txt crates/*/src crates/*/specs crates/*/proofs"
     fi
     # It is there while a build is under way, and where one was killed.
     mark=$target/.$name.began
@@ -57,7 +59,7 @@ dated() {
 # no_source TEST..: is the program there, its build whole, and does no source pass the test of find? A folder is newer
 # where a file was removed from it. What find stumbles over counts as a source that does.
 no_source() (
-    # shellcheck disable=SC2086 # sources are words
+    # shellcheck disable=SC2086 # sources are patterns
     cd "$root" && [ -x "$program" ] && [ ! -e "$mark" ] && [ -z "$(find $sources \( "$@" \) -print 2>&1 | head -n 1)" ]
 )
 

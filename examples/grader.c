@@ -2,7 +2,7 @@
  * global root is broken, to show where walks stop.
  *
  * Build, from the root of the repository:
- *   rt staticlib mmu_c
+ *   tools/staticlib
  *   gcc -std=c11 -O2 -I include examples/grader.c target/staticlib/libmmu_c.a -o target/grader
  * It prints what it saw, one line a step: examples/grader.lines. */
 

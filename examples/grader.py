@@ -4,7 +4,7 @@ The page is loaded, aged and given back, and no stale entry answers for it. Then
 to show where walks stop.
 
 Build and run, from the root of the repository:
-    rt staticlib mmu_c
+    tools/staticlib
     gcc -shared -Wl,--whole-archive target/staticlib/libmmu_c.a -Wl,--no-whole-archive -o target/libmmu_c.so
     python3 examples/grader.py target/libmmu_c.so
 It prints what it saw, one line a step: examples/grader.lines.

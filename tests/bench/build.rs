@@ -8,9 +8,9 @@ fn main() {
     println!("cargo::rerun-if-env-changed=PROVED");
     let folder = match env::var_os("PROVED") {
         Some(folder) => PathBuf::from(folder),
-        None => PathBuf::from("../../target"),
+        None => PathBuf::from("../.."),
     };
-    let library = folder.join("staticlib/libmmu_c.a");
+    let library = folder.join("target/staticlib/libmmu_c.a");
     println!("cargo::rerun-if-changed={}", library.display());
     let Ok(library) = library.canonicalize() else {
         return;

@@ -11,19 +11,19 @@ fails() {
     call 2 "$repository/bin/mmutrace" </dev/null && printed '' && grep -qxF "mmutrace: $1" "$errors"
 }
 
-# announced PROGRAM CRATES TIME: the first line of a build.
+# announced PROGRAM CRATES: the first line of a build.
 announced() {
-    echo "$1: target/bin/$1 is proved and built first: $2 crates, about $3 on two cores where none is proved yet"
+    echo "$1: crates/$1/out/$1 is proved and built first: $2 crates, some minutes where none is proved yet"
 }
 
 # A line for each crate, and what the prover said in the log.
 first_call() {
-    fresh && runs 1 && said "$(announced mmutrace 4 'two minutes')
+    fresh && runs 1 && said "$(announced mmutrace 4)
 mmutrace: 1/4 low
 mmutrace: 2/4 side
 mmutrace: 3/4 middle
 mmutrace: 4/4 mmutrace
-" && grep -qx 'fn low::call: proved' "$repository/target/mmutrace.log"
+" && grep -qx 'fn low::call: proved' "$repository/crates/mmutrace/out/mmutrace.log"
 }
 
 second_call() {
@@ -33,22 +33,35 @@ second_call() {
 # Crates that stay proved are counted, not shown.
 another_program() {
     call 7 "$repository/bin/mmureport" "$work/whole.trace" </dev/null && printed "arguments: <$work/whole.trace>
-" && said "$(announced mmureport 5 'three minutes')
-mmureport: 3/5 other
+" && said "$(announced mmureport 5)
+mmureport: 4/5 other
 mmureport: 5/5 mmureport
 "
 }
 
 # Each changed source is one build; so is a program that is old or missing.
 changed_source() {
-    fresh && runs 1 && touch "$repository/crates/low/file" && runs 2 && touch "$repository/crates.txt" && runs 3 &&
-        touch -t 197001020000 "$repository/target/bin/mmutrace" && runs 4 &&
-        rm "$repository/target/bin/mmutrace" && runs 5 && runs 5
+    fresh && runs 1 && touch "$repository/crates/low/src/file" && runs 2 && touch "$repository/crates.txt" && runs 3 &&
+        touch -t 197001020000 "$repository/crates/mmutrace/out/mmutrace" && runs 4 &&
+        rm "$repository/crates/mmutrace/out/mmutrace" && runs 5 && runs 5
+}
+
+# What a program is not made from: wrong versions, and what rt leaves in out/.
+other_files() {
+    fresh && runs 1 && touch "$repository/crates/low/must-fail/a.edit" "$repository/crates/side/out/rlib/stamp" && runs 1 &&
+        rm -r "$repository/crates/other/out" 2>/dev/null
+    mkdir -p "$repository/crates/other/out" && runs 1
+}
+
+# Where rt waits for another rt, by hand or of a gate, it is said.
+says_wait() {
+    fresh && touch "$work/wait" && runs 1 &&
+        grep -qxF "mmutrace: waiting for another rt to finish in $repository/crates/low" "$errors"
 }
 
 # A source that is newer but the same: rt is asked once, not at every call from then on.
 same_source() {
-    fresh && runs 1 && touch "$work/unchanged" "$repository/crates/low/file" && runs 2 && runs 2
+    fresh && runs 1 && touch "$work/unchanged" "$repository/crates/low/src/file" && runs 2 && runs 2
 }
 
 # older FILE..: the files as others with a time of long ago, as cp -a and tar leave them.
@@ -58,7 +71,7 @@ older() {
 
 # A source that was copied in with an older time: rt is asked once too.
 older_source() {
-    fresh && runs 1 && older "$repository/crates/low/file" && runs 2 && runs 2
+    fresh && runs 1 && older "$repository/crates/low/src/file" && runs 2 && runs 2
 }
 
 # A source that changes during a build is newer than the program.
@@ -67,20 +80,20 @@ source_changed_meanwhile() {
 }
 
 # A failed build is not run, now or at the next call, although it left a program. Of the prover's lines those are
-# shown that say what failed; crates that only stand on it are not named.
+# shown that say what failed.
 failed_build() {
-    local sentence="the build of target/bin/mmutrace failed, so it is not run: $repository/target/mmutrace.log has all that rt said"
+    local sentence="the build of crates/mmutrace/out/mmutrace failed, so it is not run: $repository/crates/mmutrace/out/mmutrace.log has all that rt said"
     fresh && touch "$work/fail" && fails "$sentence" && fails "$sentence" && sed -i 1d "$errors" && said "\
 fn side::call: not proved
-rt: side NOT PROVED (exit 1, 1 s)
+rt: the library side did not build, so nothing above it was checked
 mmutrace: $sentence
-" && grep -qx 'rt: FAILED: side middle' "$repository/target/mmutrace.log" && rm "$work/fail" && runs 3 && runs 3
+" && grep -qx 'logic=not-proved' "$repository/crates/mmutrace/out/mmutrace.log" && rm "$work/fail" && runs 3 && runs 3
 }
 
-# rt ended well, and there is no program: it was removed by hand.
+# rt ended well, and there is no program.
 lost_program() {
-    fresh && runs 1 && touch "$work/unchanged" && rm "$repository/target/bin/mmutrace" &&
-        fails "rt ended well, but there is no target/bin/mmutrace: remove $repository/target, and call again" &&
+    fresh && runs 1 && touch "$work/unchanged" && rm "$repository/crates/mmutrace/out/mmutrace" &&
+        fails "rt ended well, but there is no crates/mmutrace/out/mmutrace: remove $repository/crates/mmutrace/out, and call again" &&
         rm "$work/unchanged" && runs 3
 }
 
@@ -88,7 +101,7 @@ lost_program() {
 without_rt() {
     fresh && built && bare 7 "$repository/bin/mmutrace" </dev/null && said '' && touch "$repository/crates.txt" &&
         bare 2 "$repository/bin/mmutrace" </dev/null && printed '' &&
-        said $'mmutrace: target/bin/mmutrace is to be built, but rt is not on the path\n'
+        said $'mmutrace: crates/mmutrace/out/mmutrace is to be built, but rt is not on the path\n'
 }
 
 # Without flock, and without setsid: it is built all the same.
@@ -100,7 +113,7 @@ without_flock() {
         mv "$work/setsid" "$work/no tools" && rm "$work/no tools/rt" "$work/no tools/cargo"
 }
 
-waits="mmu[a-z]*: waiting for another call's build, whose log is in $repository/target"
+waits="mmu[a-z]*: waiting for another call's build, whose log is in $repository/crates/[*]/out"
 
 # await COMMAND..: waits until the command succeeds, for some seconds at most.
 await() {
@@ -140,16 +153,15 @@ others_wait() {
 }
 
 # interrupt HOW ENDING [SHELL]: a build that is interrupted ends, with all that it started, and leaves no file: no half
-# library, no half program that would be run next, no mark, no log, nothing among the temporary files. The script ends
-# as the signal ends it.
+# program that would be run next, no mark, no log, nothing among the temporary files. The script ends as the signal ends
+# it.
 interrupt() {
     local how=$1 ending=$2
     shift 2
     fresh && touch "$work/long" && call 0 python3 tests/text/terminal.py interrupt "$how" "$work/begun" "$@" "$repository/bin/mmutrace"
     rm "$work/long"
-    printed "$ending"$'\n' && tail -n 1 "$errors" | grep -qxF 'mmutrace: interrupted: target/bin/mmutrace is not built' &&
-        [ -z "$(ls -A "$work/temporary")" ] && [ "$(ls -A "$repository/target")" = $'bin\nrlib\nstamp' ] &&
-        [ "$(ls -A "$repository/target/rlib")" = $'low.rlib\nmmutrace.rlib\nside.rlib' ] && runs 2 && runs 2
+    printed "$ending"$'\n' && tail -n 1 "$errors" | grep -qxF 'mmutrace: interrupted: crates/mmutrace/out/mmutrace is not built' &&
+        [ -z "$(ls -A "$work/temporary")" ] && [ "$(ls -A "$repository/crates/mmutrace/out")" = rlib ] && runs 2 && runs 2
 }
 
 # A build of which all processes are killed cannot clear up. The half program is not run.
@@ -179,15 +191,16 @@ cannot_build() {
     local sentence=$1
     shift
     call 2 "$@" "$repository/bin/mmutrace" </dev/null && printed '' &&
-        said "mmutrace: target/bin/mmutrace is to be built, but $sentence
+        said "mmutrace: crates/mmutrace/out/mmutrace is to be built, but $sentence
 "
 }
 
-# Where target/ or a temporary folder cannot be made there is one sentence.
+# Where out/ or a temporary folder cannot be made there is one sentence.
 unmade_folders() {
-    local sentence="$repository/target is no folder: remove it, and call again"
-    fresh && touch "$repository/target" && cannot_build "$sentence" &&
-        fresh && ln -s nowhere "$repository/target" && cannot_build "$sentence" &&
+    local made=$repository/crates/mmutrace/out
+    local sentence="$made is no folder: remove it, and call again"
+    fresh && touch "$made" && cannot_build "$sentence" &&
+        fresh && ln -s nowhere "$made" && cannot_build "$sentence" &&
         fresh && cannot_build "no temporary folder can be made in $work/missing" env TMPDIR="$work/missing" && runs 1
 }
 
@@ -208,12 +221,12 @@ $script: $(built_as $script) is to be built, but there is no $work/alone/$missin
 
 # built_as SCRIPT: the path of its program.
 built_as() {
-    if [ "$1" = tracetext ]; then echo tools/tracetext/target/release/tracetext; else echo "target/bin/$1"; fi
+    if [ "$1" = tracetext ]; then echo tools/tracetext/target/release/tracetext; else echo "crates/$1/out/$1"; fi
 }
 
 # as_it_is REASON: what is said where a program is run although sources were copied since.
 as_it_is() {
-    said "mmutrace: target/bin/mmutrace is run as it is: sources were copied or changed since it was built, none is newer, and $1
+    said "mmutrace: crates/mmutrace/out/mmutrace is run as it is: sources were copied or changed since it was built, none is newer, and $1
 "
 }
 
@@ -230,8 +243,8 @@ by_nobody() {
 
 unwritable() {
     chmod 711 "$work" && fresh && built && by_nobody 7 && said '' && older "$repository/crates.txt" && by_nobody 7 &&
-        as_it_is "$repository/target cannot be written" && touch "$repository/crates.txt" && by_nobody 2 &&
-        said "mmutrace: target/bin/mmutrace is to be built, but $repository/target cannot be written: take a copy of the repository that you may write
+        as_it_is "$repository/crates/mmutrace/out cannot be written" && touch "$repository/crates.txt" && by_nobody 2 &&
+        said "mmutrace: crates/mmutrace/out/mmutrace is to be built, but $repository/crates/mmutrace/out cannot be written: take a copy of the repository that you may write
 "
 }
 
@@ -274,7 +287,7 @@ tracetext_builds() {
 
 # What failed may have a cause that is no proof: it comes first, and there are ten lines at most.
 causes_of_failure() {
-    local sentence="the build of target/bin/mmutrace failed, so it is not run: $repository/target/mmutrace.log has all that rt said"
+    local sentence="the build of crates/mmutrace/out/mmutrace failed, so it is not run: $repository/crates/mmutrace/out/mmutrace.log has all that rt said"
     fresh && printf '%s\n' 'fn side::error: proved' 'side.rt:3:7: error: no such name' 'no error was found: none' \
         'error[E1]: no such type' 'rattle: no library' "cp: error writing 'a': No space left on device" >"$work/fail" &&
         fails "$sentence" && sed -i 1,5d "$errors" && said "\
@@ -283,7 +296,7 @@ error[E1]: no such type
 rattle: no library
 cp: error writing 'a': No space left on device
 fn side::call: not proved
-rt: side NOT PROVED (exit 1, 1 s)
+rt: the library side did not build, so nothing above it was checked
 mmutrace: $sentence
 " && seq -f 'side.rt:%g: error: no such name' 12 >"$work/fail" && fails "$sentence" && sed -i 1d "$errors" &&
         said "$(head -n 10 "$work/fail")
@@ -322,6 +335,8 @@ verdict "bin/mmutrace builds at the first call, and shows each crate" first_call
 verdict "bin/mmutrace does not build at the second call" second_call
 verdict "bin/mmureport counts the crates that stay proved" another_program
 verdict "bin/mmutrace builds where it is older than a source, or missing" changed_source
+verdict "bin/mmutrace does not build for a file that it is not made from" other_files
+verdict "bin/mmutrace says what rt waits for" says_wait
 verdict "bin/mmutrace asks once about a source that is the same" same_source
 verdict "bin/mmutrace asks once about a source that was copied in with an older time" older_source
 verdict "bin/mmutrace builds again what changed during a build" source_changed_meanwhile

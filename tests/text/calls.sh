@@ -37,7 +37,7 @@ helps() {
         bare 0 "$repository/bin/$script" --help && said '' && grep -q "^usage: $script " "$out" || return 1
     done
     bare 0 "$repository/bin/tracetext" encode --help && said '' && grep -q '^usage: tracetext ' "$out" || return 1
-    [ ! -e "$repository/target" ]
+    [ -z "$(find "$repository/crates" -name out)" ]
 }
 
 # A file by its name is the same as on standard input; the name may be any.

@@ -3,17 +3,18 @@
 # They are tried in a repository of their own, with an rt and a cargo that build small programs.
 
 repository="$work/a repository"
-mkdir -p "$repository/crates/low" "$repository/tools/tracetext/src" "$work/path" "$work/no tools" "$work/temporary"
+mkdir -p "$repository/crates/low"/{src,specs,proofs,must-fail} "$repository"/crates/{side,other,middle,mmutrace,mmureport}/src \
+    "$repository/tools/tracetext/src" "$work/path" "$work/no tools" "$work/temporary"
 cp -R bin "$repository"
-echo a >"$repository/crates/low/file"
+echo a >"$repository/crates/low/src/file"
 cat >"$repository/crates.txt" <<'TEXT'
 # A comment: of no crate.
-low:
+low may_wait=2:
+mmureport: csv middle other
+mmutrace: middle
 side: low
 other: low # other
 middle: low side io
-mmutrace: middle
-mmureport: os middle other
 TEXT
 cp tools/tracetext/src/usage.txt "$repository/tools/tracetext/src"
 touch "$repository/tools/tracetext/Cargo.toml" "$repository/tools/tracetext/Cargo.lock"
@@ -33,47 +34,49 @@ cat
 exit 7
 TEXT
 
-# This rt eats standard input, says what the true one says, and counts its calls. As the true one it breaks where two
-# run at once in one target/, counts on crates that have a stamp, and stumbles over half a library. Files beside the
-# repository tell it to fail with the lines of that file, to leave a program as it is, to change a source, to hold on, or to leave half a library
-# and half a program and then take long.
+# This rt eats standard input, says what the true one says, and counts its calls. As the true one it keeps each library
+# by a stamp, says nothing of one that stays proved, and leaves a program where nothing changed; it breaks where two run
+# at once. Files beside the repository tell it to fail with the lines of that file, to leave a program as it is, to
+# change a source, to hold on, to say that it waits, or to leave half a library and half a program and then take long.
 cat >"$work/path/rt" <<'TEXT'
 #!/bin/sh
-case $* in
-    'check mmutrace') crates='low side middle mmutrace' ;;
-    'check mmureport') crates='low side other middle mmureport' ;;
+[ "$*" = run ] || exit 9
+program=${PWD##*/}
+case $program in
+    mmutrace) crates='low side middle mmutrace' ;;
+    mmureport) crates='low side middle other mmureport' ;;
     *) exit 9 ;;
 esac
+cd ../..
 [ -f crates.txt ] || exit 9
 cat
-mkdir -p target/bin target/rlib target/stamp
-if ! mkdir target/running 2>/dev/null; then
-    echo 'rt: low NOT PROVED (exit 2, 0 s)'
+made=crates/$program/out/$program
+mkdir -p crates/$program/out
+if ! mkdir ../running 2>/dev/null; then
+    echo 'rt: two run at once'
     exit 2
 fi
 echo built >>../builds
+[ ! -e ../wait ] || echo "rt: waiting for another rt to finish in $PWD/crates/low"
 for crate in $crates; do
-    echo "fn $crate::call: proved"
-    library=target/rlib/$crate.rlib
-    if [ -e target/stamp/$crate ]; then
-        echo "rt: $crate proved (unchanged since it was last proved)"
-    elif [ -e $library ] && [ ! -e $library/whole ]; then
-        echo "rt: $crate NOT PROVED (exit 2, 1 s)"
-        rmdir target/running
-        exit 2
-    else
+    library=crates/$crate/out/rlib
+    if [ ! -e $library/stamp ]; then
+        echo "rt: $crate: begins with what a check kept in /a/copy"
+        echo "rt: chose --jobs 2 for $crate"
+        echo "fn $crate::call: proved"
+        echo "statements std: modules loaded=1 checked=0"
+        echo "crate $crate: modules loaded=0 checked=1"
+        echo "logic=proved functions=1 target=x86_64"
         mkdir -p $library
-        touch $library/whole target/stamp/$crate
-        echo "rt: $crate proved (1 s)"
+        touch $library/stamp
     fi
 done
-[ ! -e ../edit ] || { sleep 0.1 && touch crates/low/file; }
+[ ! -e ../edit ] || { sleep 0.1 && touch crates/low/src/file; }
 if [ -e ../long ]; then
-    rm target/stamp/middle target/rlib/middle.rlib/whole
-    mkdir target/rlib/middle.rlib.tmp-1
-    echo half >target/bin/$2
-    chmod +x target/bin/$2
-    rmdir target/running
+    rm crates/middle/out/rlib/stamp
+    echo half >$made
+    chmod +x $made
+    rmdir ../running
     echo left >"${TMPDIR:-/tmp}/left"
     sleep 30 &
     echo $$ $! >../numbers
@@ -82,19 +85,20 @@ if [ -e ../long ]; then
 fi
 while [ -e ../hold ]; do sleep 0.02; done
 if [ ! -e ../unchanged ]; then
-    cp ../program target/bin/$2
-    chmod +x target/bin/$2
+    cp ../program $made
+    chmod +x $made
 fi
-rmdir target/running 2>/dev/null
+rmdir ../running 2>/dev/null
 if [ -e ../fail ]; then
     cat ../fail
     echo 'fn side::call: not proved'
-    echo 'rt: side NOT PROVED (exit 1, 1 s)'
-    echo 'rt: middle NOT PROVED: its dependency side is not proved'
-    echo 'rt: FAILED: side middle'
+    echo 'crate side: modules loaded=0 checked=1'
+    echo 'logic=not-proved'
+    echo 'rattle build: nothing was built, since only a proved crate is built'
+    echo 'rt: the library side did not build, so nothing above it was checked'
     exit 1
 fi
-echo 'rt: ok, some crates proved'
+echo "rt: running out/$program; to give it other input, run that file yourself"
 TEXT
 
 # As the true one this cargo goes by times of modification.
@@ -158,7 +162,7 @@ builds() {
 
 # fresh: the repository as after a clone, and rt as it is by itself.
 fresh() {
-    (cd "$work" && rm -rf "$repository/target" builds begun temporary fail unchanged edit hold long && mkdir temporary)
+    find "$repository/crates" -name out -prune -exec rm -rf {} + && (cd "$work" && rm -rf builds begun running temporary fail unchanged edit hold long wait && mkdir temporary)
 }
 
 # built: the programs of the repository are there and current.

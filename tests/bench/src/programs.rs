@@ -3,15 +3,15 @@
 use crate::rounds::Both;
 use std::path::{Path, PathBuf};
 
-/// The folder of what the proofs let through; the environment's PROVED names another.
+/// The checkout whose proved programs and library are measured; the environment's PROVED names another.
 pub fn proved() -> PathBuf {
-    std::env::var_os("PROVED").map_or_else(|| PathBuf::from("target"), PathBuf::from)
+    std::env::var_os("PROVED").map_or_else(|| PathBuf::from("."), PathBuf::from)
 }
 
 /// The two programs, or none, having named the one that is not there.
 pub fn pair(rattle: &str, second: &str) -> Option<Both<PathBuf>> {
     let pair = Both {
-        rattle: proved().join("bin").join(rattle),
+        rattle: proved().join("crates").join(rattle).join("out").join(rattle),
         second: Path::new("tests/bench/target/release").join(second),
     };
     let missing = [&pair.rattle, &pair.second]

@@ -52,7 +52,7 @@ const LONG_ENOUGH: Duration = Duration::from_millis(1);
 
 pub fn measure() -> Result<(), String> {
     let Some(rattle) = proved::calls() else {
-        let library = programs::proved().join("staticlib/libmmu_c.a");
+        let library = programs::proved().join("target/staticlib/libmmu_c.a");
         println!("skipped: {} was not there at the build", library.display());
         return Ok(());
     };
