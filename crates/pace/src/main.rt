@@ -12,6 +12,7 @@ use collector::Collected;
 use heap::{Mapped, Pool};
 use mmu::RawReply;
 use registers::{Access, Outcome, Registers, Reply};
+use std::io::{Read, Write};
 
 // Register numbers.
 const SELECT: u32 = 6;
@@ -70,8 +71,8 @@ fn worth(outcome: Outcome) -> u64 {
 
 fn counted(sum: u64, reply: Reply) -> u64 {
     let outcome = reply.outcome;
-    let more = std::num::wrapping_add_u64(worth(outcome), reply.loads as u64);
-    std::num::wrapping_add_u64(sum, more)
+    let more = worth(outcome).wrapping_add(reply.loads as u64);
+    sum.wrapping_add(more)
 }
 
 // A user's read of a page.
@@ -115,7 +116,7 @@ fn run_raw(r: Registers, buffer: &[u64], count: u32) -> u64 {
             return 0;
         };
         let physical = t.physical;
-        sum = std::num::wrapping_add_u64(sum, address_of(physical));
+        sum = sum.wrapping_add(address_of(physical));
         registers = t.registers;
         i += 1;
     }
@@ -177,7 +178,7 @@ fn run_looks(r: Registers, buffer: &mut [u64], count: u32) -> u64 {
 }
 
 fn added(sum: u64, outcome: Outcome) -> u64 {
-    std::num::wrapping_add_u64(sum, worth(outcome))
+    sum.wrapping_add(worth(outcome))
 }
 
 // A pool of 4,096 frames of which so many, the first ones, are held.
@@ -214,7 +215,7 @@ fn run_frames(count: u32) -> u64 {
 // What a map adds to the sum.
 fn counted_map(sum: u64, mapped: Mapped) -> u64 {
     let reply = mapped.reply;
-    std::num::wrapping_add_u64(counted(sum, reply), mapped.pfn as u64)
+    counted(sum, reply).wrapping_add(mapped.pfn as u64)
 }
 
 // Scenario 6: a frame is mapped and given back.
@@ -261,7 +262,7 @@ fn map_pages(r: Registers, buffer: &mut [u64], words: &mut [u32], pages: u32, be
 // What a pass adds to the sum.
 fn counted_pass(sum: u64, collected: Collected) -> u64 {
     let reply = collected.reply;
-    std::num::wrapping_add_u64(counted(sum, reply), collected.given as u64)
+    counted(sum, reply).wrapping_add(collected.given as u64)
 }
 
 // A pass for identification 5.
@@ -400,20 +401,23 @@ fn prepare(buffer: &mut [u64], words: &mut [u32]) -> Registers {
     fill(enabled, buffer, words)
 }
 
-fn pace(buffer: &mut [u64], words: &mut [u32]) {
+// What the input lacks counts as 0, and a sum that can't be written is lost.
+fn pace(input: &mut impl Read, output: &mut impl Write, buffer: &mut [u64], words: &mut [u32]) {
     let mut bytes = [0u8; 8];
-    io::read_full(0, &mut bytes);
+    let _ = input.read_exact(&mut bytes);
     let scenario = wire::word_at(&bytes, 0);
     let count = wire::word_at(&bytes, 1);
     let r = prepare(buffer, words);
     let sum = run(r, buffer, words, scenario, count);
     let mut answer = [0u8; 8];
     wire::put_number(&mut answer, 0, sum);
-    io::write_all(1, &answer);
+    let _ = output.write_all(&answer);
 }
 
-fn main() {
+fn main(rt: HostRuntime) {
+    let mut input = rt.stdin();
+    let mut output = rt.stdout();
     let mut buffer = [0u64; 64];
     let mut words: [u32; 16384] = [0; 16384];
-    pace(&mut buffer, &mut words);
+    pace(&mut input, &mut output, &mut buffer, &mut words);
 }

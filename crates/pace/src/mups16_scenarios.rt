@@ -26,7 +26,7 @@ fn faults_of(m: Mapping) -> u64 {
 // What an answer adds to the sum.
 fn worth(answer: Answer) -> u64 {
     match answer {
-        Answer::At(m) => std::num::wrapping_add_u64(m.address as u64, faults_of(m)),
+        Answer::At(m) => (m.address as u64).wrapping_add(faults_of(m)),
         Answer::Word(value) => value as u64 + 1,
         Answer::Done => 1,
         Answer::Refused(number) => 1000000 * number as u64,
@@ -34,7 +34,7 @@ fn worth(answer: Answer) -> u64 {
 }
 
 fn added(sum: u64, answer: Answer) -> u64 {
-    std::num::wrapping_add_u64(sum, worth(answer))
+    sum.wrapping_add(worth(answer))
 }
 
 // Prepares the entries.
