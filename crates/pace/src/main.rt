@@ -12,6 +12,7 @@ use collector::Collected;
 use heap::{Mapped, Pool};
 use mmu::RawReply;
 use registers::{Access, Outcome, Registers, Reply};
+use std::io::{Read, Write};
 
 // Register numbers.
 const SELECT: u32 = 6;
@@ -70,8 +71,8 @@ fn worth(outcome: Outcome) -> u64 {
 
 fn counted(sum: u64, reply: Reply) -> u64 {
     let outcome = reply.outcome;
-    let more = std::num::wrapping_add_u64(worth(outcome), reply.loads as u64);
-    std::num::wrapping_add_u64(sum, more)
+    let more = worth(outcome).wrapping_add(reply.loads as u64);
+    sum.wrapping_add(more)
 }
 
 // A user's read of a page.
@@ -107,17 +108,15 @@ fn address_of(physical: Physical) -> u64 {
 fn run_raw(r: Registers, buffer: &[u64], count: u32) -> u64 {
     let mut registers = r;
     let mut sum: u64 = 0;
-    let mut i: u64 = 0;
-    while i < count as u64 {
+    for i in 0..count as u64 {
         let a = access_of(0, i);
         let reply = mmu::raw_access(registers, buffer, a.address, a.user, a.write, a.draw);
         let RawReply::Answered(t) = reply else {
             return 0;
         };
         let physical = t.physical;
-        sum = std::num::wrapping_add_u64(sum, address_of(physical));
+        sum = sum.wrapping_add(address_of(physical));
         registers = t.registers;
-        i += 1;
     }
     sum
 }
@@ -126,15 +125,13 @@ fn run_raw(r: Registers, buffer: &[u64], count: u32) -> u64 {
 fn run_served(r: Registers, buffer: &mut [u64], words: &[u32], scenario: u32, count: u32) -> u64 {
     let mut registers = r;
     let mut sum: u64 = 0;
-    let mut i: u64 = 0;
-    while i < count as u64 {
+    for i in 0..count as u64 {
         let a = access_of(scenario, i);
         let reply = mmu::served_access(
             registers, buffer, words, a.address, a.user, a.write, a.draw,
         );
         sum = counted(sum, reply);
         registers = reply.registers;
-        i += 1;
     }
     sum
 }
@@ -142,14 +139,12 @@ fn run_served(r: Registers, buffer: &mut [u64], words: &[u32], scenario: u32, co
 // Scenario 3: stores that change software bits alone.
 fn run_stores(r: Registers, buffer: &mut [u64], words: &mut [u32], count: u32) -> u64 {
     let mut sum: u64 = 0;
-    let mut i: u64 = 0;
-    while i < count as u64 {
+    for i in 0..count as u64 {
         let page = (i % 64) as u32;
         let software = ((i / 64) % SOFTWARE) as u32;
         let value = FIRST_LEAF + page + software * SOFTWARE_BIT;
         let reply = store::table_store(r, buffer, words, TABLE + page, value);
         sum = counted(sum, reply);
-        i += 1;
     }
     sum
 }
@@ -166,29 +161,25 @@ fn read_both(sum: u64, r: Registers, buffer: &[u64]) -> u64 {
 fn run_looks(r: Registers, buffer: &mut [u64], count: u32) -> u64 {
     let mut registers = r;
     let mut sum: u64 = 0;
-    let mut i: u64 = 0;
-    while i < count as u64 {
+    for i in 0..count as u64 {
         let selected = control::write_register(registers, buffer, SELECT, (i % 64) as u32);
         registers = selected.registers;
         sum = read_both(sum, registers, buffer);
-        i += 1;
     }
     sum
 }
 
 fn added(sum: u64, outcome: Outcome) -> u64 {
-    std::num::wrapping_add_u64(sum, worth(outcome))
+    sum.wrapping_add(worth(outcome))
 }
 
 // A pool of 4,096 frames of which so many, the first ones, are held.
 fn held_pool(first: u32, held: u32) -> Pool {
     let fresh = heap::new_pool(first, POOL);
     let mut pool = fresh.pool;
-    let mut i: u32 = 0;
-    while i < held {
+    for _ in 0..held {
         let taken = heap::take(pool);
         pool = taken.pool;
-        i += 1;
     }
     pool
 }
@@ -197,8 +188,7 @@ fn held_pool(first: u32, held: u32) -> Pool {
 fn run_frames(count: u32) -> u64 {
     let mut pool = held_pool(FIRST_PFN, HELD);
     let mut sum: u64 = 0;
-    let mut i: u64 = 0;
-    while i < count as u64 {
+    for i in 0..count as u64 {
         let given = heap::give(pool, FIRST_PFN + ((7 * i) % WIDE_HELD) as u32);
         let given_outcome = given.outcome;
         pool = given.pool;
@@ -206,7 +196,6 @@ fn run_frames(count: u32) -> u64 {
         let taken_outcome = taken.outcome;
         pool = taken.pool;
         sum = added(added(sum, given_outcome), taken_outcome);
-        i += 1;
     }
     sum
 }
@@ -214,15 +203,14 @@ fn run_frames(count: u32) -> u64 {
 // What a map adds to the sum.
 fn counted_map(sum: u64, mapped: Mapped) -> u64 {
     let reply = mapped.reply;
-    std::num::wrapping_add_u64(counted(sum, reply), mapped.pfn as u64)
+    counted(sum, reply).wrapping_add(mapped.pfn as u64)
 }
 
 // Scenario 6: a frame is mapped and given back.
 fn run_maps(r: Registers, buffer: &mut [u64], words: &mut [u32], count: u32) -> u64 {
     let mut pool = held_pool(FIRST_PFN, HELD);
     let mut sum: u64 = 0;
-    let mut i: u64 = 0;
-    while i < count as u64 {
+    for i in 0..count as u64 {
         let mapped = heap::map(r, buffer, words, pool, TABLE + (i % 64) as u32, LEAF);
         sum = counted_map(sum, mapped);
         pool = mapped.pool;
@@ -230,7 +218,6 @@ fn run_maps(r: Registers, buffer: &mut [u64], words: &mut [u32], count: u32) -> 
         let outcome = given.outcome;
         sum = added(sum, outcome);
         pool = given.pool;
-        i += 1;
     }
     sum
 }
@@ -248,12 +235,10 @@ fn map_pages(r: Registers, buffer: &mut [u64], words: &mut [u32], pages: u32, be
 {
     let mut sum = begun.sum;
     let mut pool = begun.pool;
-    let mut page: u32 = 0;
-    while page < pages {
+    for page in 0..pages {
         let mapped = heap::map(r, buffer, words, pool, TABLE + page, LEAF);
         sum = counted_map(sum, mapped);
         pool = mapped.pool;
-        page += 1;
     }
     Going { sum, pool }
 }
@@ -261,7 +246,7 @@ fn map_pages(r: Registers, buffer: &mut [u64], words: &mut [u32], pages: u32, be
 // What a pass adds to the sum.
 fn counted_pass(sum: u64, collected: Collected) -> u64 {
     let reply = collected.reply;
-    std::num::wrapping_add_u64(counted(sum, reply), collected.given as u64)
+    counted(sum, reply).wrapping_add(collected.given as u64)
 }
 
 // A pass for identification 5.
@@ -301,20 +286,16 @@ fn run_passes(
     requires { pages ≤ 4096 }
 {
     let mut going = Going { sum: 0, pool };
-    let mut i: u64 = 0;
-    while i < count as u64 {
+    for _ in 0..count {
         going = map_again(r, buffer, words, pages, going);
-        i += 1;
     }
     going.sum
 }
 
 // Has the directory name tables 2 to 4 too.
 fn name_tables(r: Registers, buffer: &mut [u64], words: &mut [u32]) {
-    let mut k: u32 = 1;
-    while k < 4 {
+    for k in 1..4 {
         store::table_store(r, buffer, words, DIRECTORY + k, NUMBER_1 + k);
-        k += 1;
     }
 }
 
@@ -360,10 +341,8 @@ fn run(r: Registers, buffer: &mut [u64], words: &mut [u32], scenario: u32, count
 fn build(r: Registers, buffer: &mut [u64], words: &mut [u32]) {
     store::table_store(r, buffer, words, 5, NUMBER_1);
     store::table_store(r, buffer, words, DIRECTORY, NUMBER_1);
-    let mut page: u32 = 0;
-    while page < PAGES {
+    for page in 0..PAGES {
         store::table_store(r, buffer, words, TABLE + page, FIRST_LEAF + page);
-        page += 1;
     }
 }
 
@@ -380,14 +359,12 @@ fn settings(r: Registers) -> Registers {
 // Pages 0 to 63, one in each slot.
 fn fill(r: Registers, buffer: &mut [u64], words: &[u32]) -> Registers {
     let mut registers = r;
-    let mut page: u32 = 0;
-    while page < 64 {
+    for page in 0..64 {
         let a = reading(page, 0, page / 16);
         let reply = mmu::served_access(
             registers, buffer, words, a.address, a.user, a.write, a.draw,
         );
         registers = reply.registers;
-        page += 1;
     }
     registers
 }
@@ -400,20 +377,23 @@ fn prepare(buffer: &mut [u64], words: &mut [u32]) -> Registers {
     fill(enabled, buffer, words)
 }
 
-fn pace(buffer: &mut [u64], words: &mut [u32]) {
+// What the input lacks counts as 0, and a sum that can't be written is lost.
+fn pace(input: &mut impl Read, output: &mut impl Write, buffer: &mut [u64], words: &mut [u32]) {
     let mut bytes = [0u8; 8];
-    io::read_full(0, &mut bytes);
+    let _ = input.read_exact(&mut bytes);
     let scenario = wire::word_at(&bytes, 0);
     let count = wire::word_at(&bytes, 1);
     let r = prepare(buffer, words);
     let sum = run(r, buffer, words, scenario, count);
     let mut answer = [0u8; 8];
     wire::put_number(&mut answer, 0, sum);
-    io::write_all(1, &answer);
+    let _ = output.write_all(&answer);
 }
 
-fn main() {
+fn main(rt: HostRuntime) {
+    let mut input = rt.stdin();
+    let mut output = rt.stdout();
     let mut buffer = [0u64; 64];
     let mut words: [u32; 16384] = [0; 16384];
-    pace(&mut buffer, &mut words);
+    pace(&mut input, &mut output, &mut buffer, &mut words);
 }

@@ -26,7 +26,7 @@ fn faults_of(m: Mapping) -> u64 {
 // What an answer adds to the sum.
 fn worth(answer: Answer) -> u64 {
     match answer {
-        Answer::At(m) => std::num::wrapping_add_u64(m.address as u64, faults_of(m)),
+        Answer::At(m) => (m.address as u64).wrapping_add(faults_of(m)),
         Answer::Word(value) => value as u64 + 1,
         Answer::Done => 1,
         Answer::Refused(number) => 1000000 * number as u64,
@@ -34,15 +34,13 @@ fn worth(answer: Answer) -> u64 {
 }
 
 fn added(sum: u64, answer: Answer) -> u64 {
-    std::num::wrapping_add_u64(sum, worth(answer))
+    sum.wrapping_add(worth(answer))
 }
 
 // Prepares the entries.
 fn set_entries(entries: &mut [u32]) {
-    let mut place: u32 = 0;
-    while place < ENTRIES {
+    for place in 0..ENTRIES {
         mups16::set_entry(entries, place, ENTRY_STEP * place);
-        place += 1;
     }
 }
 
@@ -50,15 +48,13 @@ fn set_entries(entries: &mut [u32]) {
 fn run_tables(entries: &[u32], begun: State, count: u32) -> u64 {
     let mut state = begun;
     let mut sum: u64 = 0;
-    let mut i: u64 = 0;
-    while i < count as u64 {
+    for i in 0..count as u64 {
         let named = mups16::set_table_index(state, (i % TABLES) as u32);
         let address = (STRIDE * (i % VIRTUAL_PAGES)) as u16;
         let reply = mups16::map(entries, named, address, true, i % 2 == 1);
         let answer = reply.answer;
         sum = added(sum, answer);
         state = reply.state;
-        i += 1;
     }
     sum
 }
@@ -73,13 +69,11 @@ fn read_both(sum: u64, entries: &[u32], state: State, entry_address: u32) -> u64
 // Scenario 10: one entry after the other is set, and another one read.
 fn run_entries(entries: &mut [u32], state: State, count: u32) -> u64 {
     let mut sum: u64 = 0;
-    let mut i: u64 = 0;
-    while i < count as u64 {
+    for i in 0..count as u64 {
         let place = (i % WIDE_ENTRIES) as u32;
         let set = mups16::set_entry(entries, place, (i % ENTRY_VALUES) as u32);
         let other = ((7 * i) % WIDE_ENTRIES) as u32;
         sum = read_both(added(sum, set), entries, state, other);
-        i += 1;
     }
     sum
 }

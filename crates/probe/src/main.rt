@@ -14,6 +14,7 @@ use mmu::RawReply;
 use mups16::State;
 use page_table::Walk;
 use registers::{Outcome, Registers, Reply};
+use std::io::{Read, Write};
 
 // A call's kind, its four arguments, how long its runs are, the registers, and the state of the MUPS/16 unit.
 #[derive(Clone, Copy)]
@@ -267,68 +268,69 @@ fn pool_call(q: Request, pool: Pool, buffer: &mut [u64], tables: &mut [u32]) -> 
     collect_answer(collector::collect(r, buffer, tables, pool, q.first))
 }
 
-// Fills the run from standard input, by way of the bytes; false where the input ends before.
-fn read_numbers(bytes: &mut [u8], numbers: &mut [u64]) -> bool
+// Fills the run from the input, by way of the bytes; false where the input ends before, or can't be read.
+fn read_numbers(input: &mut impl Read, bytes: &mut [u8], numbers: &mut [u64]) -> bool
     requires { length bytes.old ≡ 8 * length numbers.old }
 {
-    let n = bytes.len();
-    if io::read_full(0, bytes) != n {
+    if input.read_exact(bytes).is_err() {
         return false;
     }
     wire::decode64(bytes, numbers);
     true
 }
 
-fn read_words(bytes: &mut [u8], words: &mut [u32]) -> bool
+fn read_words(input: &mut impl Read, bytes: &mut [u8], words: &mut [u32]) -> bool
     requires { length bytes.old ≡ 4 * length words.old }
 {
-    let n = bytes.len();
-    if io::read_full(0, bytes) != n {
+    if input.read_exact(bytes).is_err() {
         return false;
     }
     wire::decode32(bytes, words);
     true
 }
 
-fn write_answer(a: Answer) {
+// Writes part of an answer. Where it can't be written the program still goes on to the end of its input.
+fn put(output: &mut impl Write, bytes: &[u8]) {
+    let _ = output.write_all(bytes);
+}
+
+fn write_answer(output: &mut impl Write, a: Answer) {
     let mut head = [0u8; 16];
     wire::encode32(&[a.first, a.second, a.third, a.fourth], &mut head);
-    io::write_all(1, &head);
+    put(output, &head);
     let r = a.registers;
     let words = registers::to_words(r);
     let mut fields = [0u8; REGISTER_BYTES];
     wire::encode32(&words, &mut fields);
-    io::write_all(1, &fields);
+    put(output, &fields);
 }
 
-fn write_numbers(numbers: &[u64], bytes: &mut [u8])
+fn write_numbers(output: &mut impl Write, numbers: &[u64], bytes: &mut [u8])
     requires { length bytes.old ≡ 8 * length numbers.now }
 {
     wire::encode64(numbers, bytes);
-    io::write_all(1, bytes);
+    put(output, bytes);
 }
 
 fn put_bits(bits: &[u64; 64], bytes: &mut [u8])
     requires { length bytes.old ≡ 512 }
 {
-    let mut k: usize = 0;
-    while k < 64 {
+    for k in 0..64usize {
         wire::put_number(bytes, k, bits[k]);
-        k += 1;
     }
 }
 
-fn write_pool(pool: Pool) {
+fn write_pool(output: &mut impl Write, pool: Pool) {
     let mut head = [0u8; 8];
     wire::encode32(&[pool.first, pool.size], &mut head);
-    io::write_all(1, &head);
+    put(output, &head);
     let mut bytes = [0u8; POOL_BYTES];
     put_bits(&pool.bits, &mut bytes);
-    io::write_all(1, &bytes);
+    put(output, &bytes);
 }
 
 // Writes the table words, by way of the bytes, where the kind is 8.
-fn write_tables(kind: u32, tables: &[u32], bytes: &mut [u8])
+fn write_tables(output: &mut impl Write, kind: u32, tables: &[u32], bytes: &mut [u8])
     requires { (length tables.now ≤ WORDS) × (length bytes.old ≡ 4 * WORDS) }
 {
     if kind != 8 {
@@ -336,7 +338,7 @@ fn write_tables(kind: u32, tables: &[u32], bytes: &mut [u8])
     }
     let end = 4 * tables.len();
     wire::encode32(tables, &mut bytes[..end]);
-    io::write_all(1, &bytes[..end]);
+    put(output, &bytes[..end]);
 }
 
 // The request that a head of eight words, the registers and a state hold; a kind that is none where the input has ended.
@@ -355,27 +357,28 @@ fn requested(got: bool, w: [u32; 8], fields: [u32; 11], state: State) -> Request
     }
 }
 
-fn read_request() -> Request {
+fn read_request(input: &mut impl Read) -> Request {
     let mut bytes = [0u8; 32];
     let mut words = [0u32; 8];
-    let head = read_words(&mut bytes, &mut words);
+    let head = read_words(input, &mut bytes, &mut words);
     let mut field_bytes = [0u8; REGISTER_BYTES];
     let mut fields = [0u32; 11];
-    let got = head & read_words(&mut field_bytes, &mut fields);
-    let s = mups16_calls::read_state(words[0]);
+    let got = head & read_words(input, &mut field_bytes, &mut fields);
+    let s = mups16_calls::read_state(input, words[0]);
     let state = s.state;
     requested(got & s.got, words, fields, state)
 }
 
 // Reads a pool where the kind has one.
-fn read_pool(kind: u32) -> PoolRead {
+fn read_pool(input: &mut impl Read, kind: u32) -> PoolRead {
     let mut bits = [0u64; 64];
     let mut frames = [0u32; 2];
     let mut got = true;
     if has_pool(kind) {
         let mut head = [0u8; 8];
         let mut bytes = [0u8; POOL_BYTES];
-        got = read_words(&mut head, &mut frames) & read_numbers(&mut bytes, &mut bits);
+        got = read_words(input, &mut head, &mut frames)
+            & read_numbers(input, &mut bytes, &mut bits);
     }
     let pool = Pool {
         first: frames[0],
@@ -386,40 +389,53 @@ fn read_pool(kind: u32) -> PoolRead {
 }
 
 // Reads so many table words, or none; answers how many are held then.
-fn read_tables(bytes: &mut [u8], tables: &mut [u32], count: usize, held: usize) -> usize
+fn read_tables(
+    input: &mut impl Read,
+    bytes: &mut [u8],
+    tables: &mut [u32],
+    count: usize,
+    held: usize,
+) -> usize
     requires { (length bytes.old ≡ 4 * WORDS) × (length tables.old ≡ WORDS) × (count ≤ WORDS) }
 {
     if count == 0 {
         return held;
     }
     let end = 4 * count;
-    if read_words(&mut bytes[..end], &mut tables[..count]) {
+    if read_words(input, &mut bytes[..end], &mut tables[..count]) {
         return count;
     }
     END
 }
 
 // Makes a request's call, and writes the answer's words, the registers, and the pool or the state after it.
-fn answer_call(q: Request, pool: Pool, buffer: &mut [u64], tables: &mut [u32])
+fn answer_call(
+    output: &mut impl Write,
+    q: Request,
+    pool: Pool,
+    buffer: &mut [u64],
+    tables: &mut [u32],
+)
     requires { length tables.old ≤ WORDS }
 {
     if has_pool(q.kind) {
         let p = pool_call(q, pool, buffer, tables);
         let answer = p.answer;
         let after = p.pool;
-        write_answer(answer);
-        write_pool(after);
+        write_answer(output, answer);
+        write_pool(output, after);
         return;
     }
     if q.kind == mups16_calls::KIND {
-        mups16_calls::reply(q, tables);
+        mups16_calls::reply(output, q, tables);
         return;
     }
-    write_answer(call(q, buffer, tables));
+    write_answer(output, call(q, buffer, tables));
 }
 
 // Makes a request's call over its runs, and writes the answer.
 fn reply(
+    output: &mut impl Write,
     q: Request,
     pool: Pool,
     bytes: &mut [u8],
@@ -429,13 +445,15 @@ fn reply(
 )
     requires { (length bytes.old ≡ 8 * length buffer.old) × (length table_bytes.old ≡ 4 * WORDS) × (length tables.old ≤ WORDS) }
 {
-    answer_call(q, pool, buffer, tables);
-    write_numbers(buffer, bytes);
-    write_tables(q.kind, tables, table_bytes);
+    answer_call(output, q, pool, buffer, tables);
+    write_numbers(output, buffer, bytes);
+    write_tables(output, q.kind, tables, table_bytes);
 }
 
 // Reads a request's runs and replies; answers how many table words are held then.
 fn serve(
+    input: &mut impl Read,
+    output: &mut impl Write,
     q: Request,
     p: PoolRead,
     bytes: &mut [u8],
@@ -454,19 +472,29 @@ fn serve(
     if WORDS < words {
         return END;
     }
-    if !read_numbers(bytes, buffer) {
+    if !read_numbers(input, bytes, buffer) {
         return END;
     }
-    let now = read_tables(table_bytes, tables, words, held);
+    let now = read_tables(input, table_bytes, tables, words, held);
     if WORDS < now {
         return END;
     }
-    reply(q, pool, bytes, buffer, table_bytes, &mut tables[..now]);
+    reply(
+        output,
+        q,
+        pool,
+        bytes,
+        buffer,
+        table_bytes,
+        &mut tables[..now],
+    );
     now
 }
 
 // Reads the head of a request and serves it; answers how many table words are held then.
 fn step(
+    input: &mut impl Read,
+    output: &mut impl Write,
     bytes: &mut [u8],
     buffer: &mut [u64],
     table_bytes: &mut [u8],
@@ -476,17 +504,19 @@ fn step(
     requires { (length bytes.old ≡ 8 * SLOTS) × (length buffer.old ≡ SLOTS)
         × (length table_bytes.old ≡ 4 * WORDS) × (length tables.old ≡ WORDS) }
 {
-    let q = read_request();
+    let q = read_request(input);
     if !names_call(q) {
         return END;
     }
-    let p = read_pool(q.kind);
+    let p = read_pool(input, q.kind);
     let slots = q.slots as usize;
     if SLOTS < slots {
         return END;
     }
     let end = 8 * slots;
     serve(
+        input,
+        output,
         q,
         p,
         &mut bytes[..end],
@@ -498,25 +528,39 @@ fn step(
 }
 
 // A proved loop has to end, and nothing says that the input does: so the requests are counted.
-fn run(bytes: &mut [u8], buffer: &mut [u64], table_bytes: &mut [u8], tables: &mut [u32])
+fn run(
+    input: &mut impl Read,
+    output: &mut impl Write,
+    bytes: &mut [u8],
+    buffer: &mut [u64],
+    table_bytes: &mut [u8],
+    tables: &mut [u32],
+)
     requires { (length bytes.old ≡ 8 * SLOTS) × (length buffer.old ≡ SLOTS)
         × (length table_bytes.old ≡ 4 * WORDS) × (length tables.old ≡ WORDS) }
 {
     let mut held: usize = 0;
-    let mut left = u64::MAX;
-    while 0 < left {
-        left -= 1;
-        held = step(bytes, buffer, table_bytes, tables, held);
+    for _ in 0..u64::MAX {
+        held = step(input, output, bytes, buffer, table_bytes, tables, held);
         if WORDS < held {
             return;
         }
     }
 }
 
-fn main() {
+fn main(rt: HostRuntime) {
+    let mut input = rt.stdin();
+    let mut output = rt.stdout();
     let mut bytes = [0u8; SLOT_BYTES];
     let mut buffer = [0u64; SLOTS];
     let mut table_bytes = [0u8; WORD_BYTES];
     let mut tables = [0u32; WORDS];
-    run(&mut bytes, &mut buffer, &mut table_bytes, &mut tables);
+    run(
+        &mut input,
+        &mut output,
+        &mut bytes,
+        &mut buffer,
+        &mut table_bytes,
+        &mut tables,
+    );
 }

@@ -1,7 +1,8 @@
 // Kind 15: a call of the MUPS/16 unit, whose entries are the table words.
-use crate::{Request, answered, bit, read_words, write_answer};
+use crate::{Request, answered, bit, put, read_words, write_answer};
 use mups16::{Answer, Mapping, State};
 use registers::Registers;
+use std::io::{Read, Write};
 
 pub(crate) const KIND: u32 = 15;
 
@@ -48,12 +49,12 @@ fn address_of(word: u32) -> u16 {
 }
 
 // Reads a state where the kind has one.
-pub(crate) fn read_state(kind: u32) -> StateRead {
+pub(crate) fn read_state(input: &mut impl Read, kind: u32) -> StateRead {
     let mut words = [0u32; 3];
     let mut got = true;
     if kind == KIND {
         let mut bytes = [0u8; STATE_BYTES];
-        got = read_words(&mut bytes, &mut words);
+        got = read_words(input, &mut bytes, &mut words);
     }
     let state = State {
         table_index: words[0],
@@ -63,7 +64,7 @@ pub(crate) fn read_state(kind: u32) -> StateRead {
     StateRead { got, state }
 }
 
-fn write_state(state: State) {
+fn write_state(output: &mut impl Write, state: State) {
     let mut bytes = [0u8; STATE_BYTES];
     wire::encode32(
         &[
@@ -73,7 +74,7 @@ fn write_state(state: State) {
         ],
         &mut bytes,
     );
-    io::write_all(1, &bytes);
+    put(output, &bytes);
 }
 
 fn faults_of(m: Mapping) -> u32 {
@@ -129,11 +130,11 @@ fn call(q: Request, entries: &mut [u32]) -> Called {
 }
 
 // Makes a request's call over the entries, and writes the answer and the state after it.
-pub(crate) fn reply(q: Request, entries: &mut [u32]) {
+pub(crate) fn reply(output: &mut impl Write, q: Request, entries: &mut [u32]) {
     let called = call(q, entries);
     let answer = called.answer;
     let after = called.state;
     let registers = q.registers;
-    write_answer(call_answer(answer, registers));
-    write_state(after);
+    write_answer(output, call_answer(answer, registers));
+    write_state(output, after);
 }
