@@ -70,8 +70,8 @@ left-machine s q = by-test (accepted e.call) refl
 pub asked : (s : System) (qs : List Ask) → StraysRefused qs → HandedThroughout s (events_of s qs)
 unfolding StraysRefused HandedThroughout events_of call_of
 asked s [] h = tt
-asked s (Now q ∷ qs) h = (handed-one s.machine (call_on s.machine q) (λ _. handed-now s.machine q), asked _ qs h)
-asked s (Stray c ∷ qs) h = (handed-one s.machine c (λ ok. absurd (clash ok h.0)), asked _ qs h.1)
+asked s (Now q ∷ qs) h = (handed-one s.machine (call_on s.machine q) (λ _. handed-now s.machine q), asked (system_after s (event_of s.machine (call_on s.machine q))) qs h)
+asked s (Stray c ∷ qs) h = (handed-one s.machine c (λ ok. absurd (clash ok h.0)), asked (system_after s (event_of s.machine c)) qs h.1)
 
 -- so demand 3 speaks of every list of requests, from every start
 pub of-every-list : (lent : Buffer) (words : List ℕ) → buffer_fits lent ≡ true → tables_fit words ≡ true → (qs : List Ask) → StraysRefused qs
