@@ -11,4 +11,4 @@ overflow_add-total c = let a = c.args in book-fits a.id a.column a.amount a.tota
 pub returns : goal.returns
 returns c = let a = c.args in
     book-done a.id a.column a.amount a.totals.now c.requires.1 c.requires.3 _
-    _ refl c.is_Within.ensures c.requires.0 c.requires.2 c.if-id-gt62.false
+    _ refl c.is_within.ensures c.requires.0 c.requires.2 c.if-id-gt62.false
