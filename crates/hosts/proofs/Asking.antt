@@ -109,19 +109,20 @@ unfolding HostThroughout run_of Askable call_with event_with raw_event_with Type
 every-list-runs now h [] t = tt
 every-list-runs now h (Now (ToAccess a) ∷ qs) t = (
   handed-one now (HostAccess now a) (h, omega (arith, t.0)) (λ _. refl),
-  every-list-runs _ (kept-bytes now (event_with now (HostAccess now a)) h (access-bytes now a h)) qs t.1,
+  every-list-runs (bytes_after now (event_with now (HostAccess now a))) (kept-bytes now (event_with now (HostAccess now a)) h (access-bytes now a h)) qs t.1,
 )
 every-list-runs now h (Now (ToStore p) ∷ qs) t = (
   handed-one now (HostStore now p) (h, omega (arith, t.0)) (λ _. refl),
-  every-list-runs _ (kept-bytes now (event_with now (HostStore now p)) h (store_bytes_lem now p h)) qs t.1,
+  every-list-runs (bytes_after now (event_with now (HostStore now p))) (kept-bytes now (event_with now (HostStore now p)) h (store_bytes_lem now p h)) qs t.1,
 )
 every-list-runs now h (Now (ToSet number value) ∷ qs) t = (
   handed-one now (HostSetting now.registers number value) tt (λ _. refl),
-  every-list-runs _ (kept-bytes now (event_with now (HostSetting now.registers number value)) h h) qs t,
+  every-list-runs (bytes_after now (event_with now (HostSetting now.registers number value)))
+      (kept-bytes now (event_with now (HostSetting now.registers number value)) h h) qs t,
 )
 every-list-runs now h (Stray c ∷ qs) t = (
   handed-one now c t.0 (λ ok. absurd (clash ok t.1)),
-  every-list-runs _ (refused-bytes now c h t.1) qs t.2,
+  every-list-runs (bytes_after now (event_with now c)) (refused-bytes now c h t.1) qs t.2,
 )
 every-list-runs now h (StrayRaw registers buffer a ∷ qs) t = (
   record { is-refused = t.0; promised = record { answer-is = refl; registers-are = refl } },
