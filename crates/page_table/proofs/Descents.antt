@@ -2,16 +2,12 @@
 use Prim.Native.Nat.{ℕ, zero, suc, ◌+◌, ◌-◌, ◌*◌, ◌/◌, ◌^◌, ◌≤◌, ◌<◌}
 use mathlib.Core.Path.{◌≡◌, refl, sym, ap, ◌∙◌}
 use mathlib.Core.Bool.{Bool, true, false, not}
-use mathlib.Core.List.{List, [], ◌∷◌}
-use mathlib.Core.Logic.{⊎_elim}
+use mathlib.Core.List.{List}
 use lib.ListN.{length, get_or}
 use native.Mathlib.Numerals.{sub-one}
 use native.Mathlib.Omega.{arith}
 use borrow.Author.Tests.{not-true, not-false}
-use types.Run.{OneOf}
-use denote.Enum.Declared.{tag_of}
 use Rattle.runs.proofs.Bools.{both}
-use Rattle.page_table.specs.contracts.Walk.{the_type}
 use Rattle.page_table.specs.Words.{present, number}
 use Rattle.page_table.specs.Stretches.{stretch_size, index_in, stretch}
 use Rattle.page_table.specs.Walk.{stop_at, index_below, walk_tree, global_first, walk_page}

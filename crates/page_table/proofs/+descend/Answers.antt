@@ -4,8 +4,6 @@ use native.Mathlib.Omega.{arith}
 use mathlib.Core.Path.{sym, ◌∙◌}
 use borrow.Author.Tests.{not-false}
 use Rattle.page_table.proofs.Descents.{next-inside, next-stands, below-lt, index-in-lt, end-leaf, end-stuck, end_on}
-use Rattle.page_table.proofs.descend.Reads as descend
-use Rattle.page_table.proofs.index_below.Reads as index_below
 use Rattle.page_table.proofs.+descend.Goals as goal
 
 pub end_at-requires : goal.end_at-requires

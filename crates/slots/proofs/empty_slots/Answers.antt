@@ -1,6 +1,5 @@
 use native.Mathlib.Omega.{arith}
 use mathlib.Core.Path.{sym, ◌∙◌}
-use Prim.Native.Nat.{◌-◌}
 use Rattle.slots.proofs.Slots.{fits-length}
 use Rattle.slots.proofs.Start.{sets-begin, sets-turn, sets_end}
 use Rattle.slots.proofs.empty_slots.Goals as goal

@@ -1,6 +1,5 @@
 use native.Mathlib.Omega.{arith}
 use mathlib.Core.Path.{refl}
-use Prim.Native.Nat.{◌-◌}
 use Rattle.runs.proofs.Fills.{fill-begin, fill-turn, fill_end}
 use Rattle.slots.proofs.fill.Goals as goal
 
