@@ -1,7 +1,6 @@
 use Prim.Native.Nat.{ℕ, ◌<◌}
 use native.Mathlib.Omega.{arith}
 use mathlib.Core.Path.{sym, subst, ◌∙◌}
-use mathlib.Core.Bool.{true}
 use Rattle.runs.proofs.Turns.{begin, turn-hit, turn-miss, finish}
 use Rattle.entry.proofs.Fields.{slot_lt}
 use Rattle.tlb.specs.Search.{hit_count, hit_set}

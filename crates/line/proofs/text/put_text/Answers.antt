@@ -1,4 +1,3 @@
-use Prim.Native.Nat.{◌-◌}
 use native.Mathlib.Omega.{arith}
 use Rattle.line.proofs.TextLaws.{copied_none, copied_more, copied_all}
 use Rattle.line.proofs.text.put_text.Goals as goal
