@@ -43,8 +43,8 @@ fn main(rt: HostRuntime) {
     );
     // Where a line could not be written, the program says so on standard error; its exit status is 0 all the same.
     if !last.written {
-        let _ = rt
-            .stderr()
-            .write_all(b"mmureport: a line can't be written, so the report ends here\n");
+        let _ = rt.stderr().write_all(
+            b"mmureport: a line can't be written, so the report ends here\n",
+        );
     }
 }

@@ -60,7 +60,9 @@ fn replay<R: Read>(
     let mut blocks: u64 = 0;
     while goes_on(last, blocks) {
         let registers = last.registers;
-        last = count_block(file, registers, buffer, words, links, presents, totals, input);
+        last = count_block(
+            file, registers, buffer, words, links, presents, totals, input,
+        );
         blocks += 1;
     }
     Replayed { last, blocks }
@@ -82,5 +84,7 @@ pub(crate) fn count_file<R: Read>(
         input.new }
 {
     let registers = report::start(buffer, words, links, presents, totals);
-    replay(file, registers, buffer, words, links, presents, totals, input)
+    replay(
+        file, registers, buffer, words, links, presents, totals, input,
+    )
 }

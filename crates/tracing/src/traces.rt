@@ -45,7 +45,16 @@ pub fn run_blocks<R: Read, W: Write>(
     let mut last = run_block(reader, writer, r, buffer, words, 0, input, out);
     while goes_on(last) {
         let registers = last.registers;
-        last = run_block(reader, writer, registers, buffer, words, last.number, input, out);
+        last = run_block(
+            reader,
+            writer,
+            registers,
+            buffer,
+            words,
+            last.number,
+            input,
+            out,
+        );
     }
     last
 }

@@ -1,4 +1,4 @@
-use Rattle.std.proofs.Common.{sym, ◌∙◌}
+use Rattle.std.proofs.Common.{arith, sym, ◌∙◌}
 use Rattle.tracing.proofs.TraceLaws.{first_block, next-block, last_block, nearer, goes-on}
 use Rattle.tracing.proofs.traces.run_blocks.Goals as goal
 
@@ -10,7 +10,8 @@ loop-registers-init g c = (
 
 pub run_block-last-requires-in-loop-registers : goal.run_block-last-requires-in-loop-registers
 run_block-last-requires-in-loop-registers g c =
-    let on = goes-on c.loop-registers.last (sym c.loop-registers-test.ensures) in (c.loop-registers.invariant.1, on.1)
+    let on = goes-on c.loop-registers.last (sym c.loop-registers-test.ensures) in 
+    (c.loop-registers.invariant.1, omega (arith, on.0, on.1))
 
 pub loop-registers-smaller : goal.loop-registers-smaller
 loop-registers-smaller g c =
