@@ -10,7 +10,7 @@ loop-registers-init g c = (
 
 pub run_block-last-requires-in-loop-registers : goal.run_block-last-requires-in-loop-registers
 run_block-last-requires-in-loop-registers g c =
-    let on = goes-on c.loop-registers.last (sym c.loop-registers-test.ensures) in 
+    let on = goes-on c.loop-registers.last (sym c.loop-registers-test.ensures) in
     (c.loop-registers.invariant.1, omega (arith, on.0, on.1))
 
 pub loop-registers-smaller : goal.loop-registers-smaller
