@@ -1,21 +1,27 @@
 // Runs a trace: reads records of eight bytes from standard input to its end, and writes a line for each to standard output.
 #![tactic(auto)]
 
-// A program has no exit status of its own: where a line could not be written, it says so on standard error.
-fn say_unless(written: bool) {
+use std::io::Write;
+
+// Where a line could not be written, the program says so on standard error; its exit status is 0 all the same.
+fn say_unless<W: Write>(to: &mut W, written: bool) {
     if !written {
-        io::write_all(
-            2,
-            b"mmutrace: a line can't be written, so the trace ends here\n",
-        );
+        let _ = to.write_all(b"mmutrace: a line can't be written, so the trace ends here\n");
     }
 }
 
-fn main() {
+fn main(rt: HostRuntime) {
     let mut buffer = [0u64; 64];
     let mut words: [u32; 16384] = [0; 16384];
     let mut input = [0u8; tracing::BLOCK];
     let mut out = [0u8; tracing::ROOM];
-    let last = tracing::run(&mut buffer, &mut words, &mut input, &mut out);
-    say_unless(last.written);
+    let last = tracing::run(
+        &mut rt.stdin(),
+        &mut rt.stdout(),
+        &mut buffer,
+        &mut words,
+        &mut input,
+        &mut out,
+    );
+    say_unless(&mut rt.stderr(), last.written);
 }

@@ -56,9 +56,9 @@ malformed-machine m = refl
 calls_are : (s : System) (cs : List Command) → CallsAre s cs (events_of s (asks_of cs))
 unfolding CallsAre asks_of events_of call_of call_on event_of
 calls_are s [] = tt
-calls_are s (Serve a ∷ cs) = (refl, calls_are _ cs)
-calls_are s (Store index value ∷ cs) = (refl, calls_are _ cs)
-calls_are s (Set number value ∷ cs) = (refl, calls_are _ cs)
+calls_are s (Serve a ∷ cs) = (refl, calls_are (next s (ToAccess a)) cs)
+calls_are s (Store index value ∷ cs) = (refl, calls_are (next s (ToStore (record { index = index; value = value }))) cs)
+calls_are s (Set number value ∷ cs) = (refl, calls_are (next s (ToSet number value)) cs)
 calls_are s (Malformed ∷ cs) = calls_are s cs
 
 -- one line, and those of the records behind it
@@ -85,9 +85,12 @@ lines_are s number (Malformed ∷ cs) =
 pub machine-is : (s : System) (cs : List Command) → machine_after s.machine cs ≡ (system_after_all s (events_of s (asks_of cs))).machine
 unfolding machine_after system_after_all asks_of events_of call_of
 machine-is s [] = refl
-machine-is s (Serve a ∷ cs) = ap (λ (m : Machine). machine_after m cs) (served-machine s a) ∙ machine-is _ cs
-machine-is s (Store index value ∷ cs) = ap (λ (m : Machine). machine_after m cs) (stored-machine s index value) ∙ machine-is _ cs
-machine-is s (Set n value ∷ cs) = ap (λ (m : Machine). machine_after m cs) (set-machine s n value) ∙ machine-is _ cs
+machine-is s (Serve a ∷ cs) =
+    ap (λ (m : Machine). machine_after m cs) (served-machine s a) ∙ machine-is (next s (ToAccess a)) cs
+machine-is s (Store index value ∷ cs) =
+    ap (λ (m : Machine). machine_after m cs) (stored-machine s index value) ∙ machine-is (next s (ToStore (record { index = index; value = value }))) cs
+machine-is s (Set n value ∷ cs) =
+    ap (λ (m : Machine). machine_after m cs) (set-machine s n value) ∙ machine-is (next s (ToSet n value)) cs
 machine-is s (Malformed ∷ cs) = ap (λ (m : Machine). machine_after m cs) (malformed-machine s.machine) ∙ machine-is s cs
 
 pub none-stray : (cs : List Command) → StraysRefused (asks_of cs)

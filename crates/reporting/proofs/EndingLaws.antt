@@ -1,7 +1,7 @@
 -- How a file ended, and the lines of an ending. Assumes nothing.
 use Prim.Native.Nat.{ℕ}
 use mathlib.Core.Path.{◌≡◌, refl, sym, subst}
-use mathlib.Core.Bool.{Bool, true, false, not}
+use mathlib.Core.Bool.{Bool, true, false}
 use mathlib.Core.List.{List}
 use lib.IntN.{ℤ}
 use Rattle.runs.proofs.Bools.{clash}
@@ -11,22 +11,22 @@ use Rattle.reporting.specs.declared.Ending.{Ending}
 use Rattle.reporting.specs.declared.Ending.TheVariants.{Unread, Refused, Whole}
 
 -- how a file ended, in the code's words
-pub ended-refused : (fits failed : Bool) → not fits ≡ true → Refused ≡ ending_of fits failed
+pub ended-refused : (fits failed : Bool) → fits ≡ false → Refused ≡ ending_of fits failed
 unfolding ending_of
-ended-refused true failed h = absurd (clash refl (sym h))
+ended-refused true failed h = absurd (clash refl h)
 ended-refused false failed h = refl
 
-pub ended-unread : (fits failed : Bool) → not fits ≡ false → failed ≡ true → Unread ≡ ending_of fits failed
+pub ended-unread : (fits failed : Bool) → fits ≡ true → failed ≡ true → Unread ≡ ending_of fits failed
 unfolding ending_of
 ended-unread true true h e = refl
 ended-unread true false h e = absurd (clash refl (sym e))
-ended-unread false failed h e = absurd (clash refl h)
+ended-unread false failed h e = absurd (clash refl (sym h))
 
-pub ended-whole : (fits failed : Bool) → not fits ≡ false → failed ≡ false → Whole ≡ ending_of fits failed
+pub ended-whole : (fits failed : Bool) → fits ≡ true → failed ≡ false → Whole ≡ ending_of fits failed
 unfolding ending_of
 ended-whole true true h e = absurd (clash refl e)
 ended-whole true false h e = refl
-ended-whole false failed h e = absurd (clash refl h)
+ended-whole false failed h e = absurd (clash refl (sym h))
 
 -- the lines of an ending
 module _ (out : List ℕ) (number : ℕ) (totals : List ℤ) (ending : Ending) (n : ℕ) (after : List ℕ) where

@@ -1,4 +1,3 @@
-pub mod FileLaws
 pub mod ReplayLaws
 pub mod EndingLaws
 pub mod ReportLaws

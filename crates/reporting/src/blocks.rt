@@ -7,10 +7,11 @@ ghost use Rattle.reporting.specs.Blocks.{BlockGives, BYTES};
 use crate::Block;
 use crate::files::fill;
 use registers::Registers;
+use std::io::Read;
 
 // Reads a block and counts its records.
-pub(crate) fn count_block(
-    fd: i32,
+pub(crate) fn count_block<R: Read>(
+    file: &mut R,
     r: Registers,
     buffer: &mut [u64],
     words: &mut [u32],
@@ -25,7 +26,7 @@ pub(crate) fn count_block(
         (Buffer.Wide buffer.new) words.new links.new presents.new totals.new
         input.new }
 {
-    let got = fill(fd, input);
+    let got = fill(file, input);
     let read = got.length;
     let counted = report::run(r, buffer, words, links, presents, totals, &input[..read]);
     let registers = counted.registers;

@@ -1,6 +1,9 @@
-// Reading a file, as much as a run holds.
+// Opening a file, and reading it, as much as a run holds.
 ghost use Rattle.std.specs.Prelude.{◌≡◌, ◌≤◌, ◌<◌, false, ◌||◌, length};
 ghost use Rattle.reporting.specs.Files.{Fills};
+
+use std::fs::Files;
+use std::{fs, io, str};
 
 // How many bytes were read, whether a read failed, and whether one answered that the file has ended.
 #[derive(Clone, Copy)]
@@ -21,29 +24,33 @@ fn after_read(length: usize, failed: bool, ended: bool) -> Read
 }
 
 // Reads once.
-fn read_some(fd: i32, part: &mut [u8]) -> Read
+fn read_some<R: io::Read>(file: &mut R, part: &mut [u8]) -> Read
     ensures { (result.length ≤ length part.new) × ((result.failed || result.ended) ≡ false → 0 < result.length) }
 {
-    let got = libc::read(fd, part);
-    if got < 0 {
-        return after_read(0, true, false);
+    match file.read(part) {
+        Ok(n) => after_read(n, false, n == 0),
+        Err(_) => after_read(0, true, false),
     }
-    let n = io::count(got, part);
-    after_read(n, false, n == 0)
 }
 
 // Reads until the run is full, the file ends or a read fails.
-pub(crate) fn fill(fd: i32, run: &mut [u8]) -> Read
+pub(crate) fn fill<R: io::Read>(file: &mut R, run: &mut [u8]) -> Read
     ensures { Fills (length run.new) result }
 {
     let n = run.len();
     let mut done: usize = 0;
     while done < n {
-        let more = read_some(fd, &mut run[done..n]);
+        let more = read_some(file, &mut run[done..n]);
         if more.failed | more.ended {
             return after_read(done, more.failed, more.ended);
         }
         done += more.length;
     }
     after_read(done, false, false)
+}
+
+// Opens a file for reading, where it can be opened. A name that is no UTF-8 text is refused.
+pub(crate) fn open<F: Files>(files: &F, path: &[u8]) -> Option<F::File> {
+    let name = str::from_utf8(path).ok()?;
+    fs::open(files, name).ok()
 }

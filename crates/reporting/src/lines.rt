@@ -6,8 +6,11 @@ ghost use Rattle.reporting.specs.Endings.{ending_of, ending_text};
 ghost use Rattle.reporting.specs.Reports.{FileGives, FilePut, ROOM, ReportFits};
 ghost use Rattle.report.specs.Totals.{TOTALS};
 
+use crate::files::open;
 use crate::replays::count_file;
 use crate::{Block, Ending, Filed, Replayed};
+use std::fs::Files;
+use std::io::Read;
 
 // How many totals a file has.
 const TOTALS: usize = rows::LINES * rows::COLUMNS;
@@ -38,8 +41,8 @@ fn put_ending(out: &mut [u8], number: u64, totals: &[i64], ending: Ending) -> us
 }
 
 // Counts an open file and puts its lines.
-fn put_counted(
-    fd: i32,
+fn put_counted<R: Read>(
+    file: &mut R,
     number: u64,
     buffer: &mut [u64],
     words: &mut [u32],
@@ -53,7 +56,7 @@ fn put_counted(
     ensures lines { FileGives number result words.new input.new out.new }
     ensures room { result.length ≤ length out.new }
 {
-    let replayed = count_file(fd, buffer, words, links, presents, totals, input);
+    let replayed = count_file(file, buffer, words, links, presents, totals, input);
     let last = replayed.last;
     let ending = ending_of(last.fits, last.failed);
     let length = put_ending(out, number, totals, ending);
@@ -61,7 +64,13 @@ fn put_counted(
 }
 
 // The same, with a buffer, an index of the tables and totals of the file's own.
-fn put_open(fd: i32, number: u64, words: &mut [u32], input: &mut [u8], out: &mut [u8]) -> Filed
+fn put_open<R: Read>(
+    file: &mut R,
+    number: u64,
+    words: &mut [u32],
+    input: &mut [u8],
+    out: &mut [u8],
+) -> Filed
     requires { ReportFits words.old input.old out.old }
     ensures lines { FileGives number result words.new input.new out.new }
     ensures room { result.length ≤ length out.new }
@@ -71,7 +80,7 @@ fn put_open(fd: i32, number: u64, words: &mut [u32], input: &mut [u8], out: &mut
     let mut presents = [0u32; 16];
     let mut totals = [0i64; TOTALS];
     put_counted(
-        fd,
+        file,
         number,
         &mut buffer,
         words,
@@ -100,7 +109,8 @@ pub(crate) fn unopened(length: usize) -> Filed
 }
 
 // Opens a file, and puts its lines; one that can't be opened is unread.
-pub(crate) fn put_lines(
+pub(crate) fn put_lines<F: Files>(
+    files: &F,
     path: &[u8],
     number: u64,
     words: &mut [u32],
@@ -111,12 +121,11 @@ pub(crate) fn put_lines(
     ensures lines { FilePut number result words.new input.new out.new }
     ensures room { result.length ≤ length out.new }
 {
-    let fd = os::open_read(path);
-    if fd < 0 {
-        let n = rows::put_unread(out, number);
-        return unopened(n);
+    match open(files, path) {
+        Some(mut file) => put_open(&mut file, number, words, input, out),
+        None => {
+            let n = rows::put_unread(out, number);
+            unopened(n)
+        }
     }
-    let file = put_open(fd, number, words, input, out);
-    libc::close(fd);
-    file
 }

@@ -10,6 +10,7 @@ ghost use Rattle.reporting.specs.Replays.{ReplayGives, before_first, goes_on};
 use crate::blocks::count_block;
 use crate::{Block, Replayed};
 use registers::Registers;
+use std::io::Read;
 
 // A full block has 8,192 records of eight bytes.
 pub const BLOCK: usize = 8 * 8192;
@@ -39,8 +40,8 @@ fn before_first(registers: Registers) -> Block
 
 // Counts one block after the other, and answers the last one: it is not full, a read failed in it, or a total passed the limit. A proved
 // loop has to end, and nothing says that the file does: it counts its blocks too.
-fn replay(
-    fd: i32,
+fn replay<R: Read>(
+    file: &mut R,
     r: Registers,
     buffer: &mut [u64],
     words: &mut [u32],
@@ -59,15 +60,17 @@ fn replay(
     let mut blocks: u64 = 0;
     while goes_on(last, blocks) {
         let registers = last.registers;
-        last = count_block(fd, registers, buffer, words, links, presents, totals, input);
+        last = count_block(
+            file, registers, buffer, words, links, presents, totals, input,
+        );
         blocks += 1;
     }
     Replayed { last, blocks }
 }
 
 // Counts a file from the start state, over zero tables.
-pub(crate) fn count_file(
-    fd: i32,
+pub(crate) fn count_file<R: Read>(
+    file: &mut R,
     buffer: &mut [u64],
     words: &mut [u32],
     links: &mut [u32],
@@ -81,5 +84,7 @@ pub(crate) fn count_file(
         input.new }
 {
     let registers = report::start(buffer, words, links, presents, totals);
-    replay(fd, registers, buffer, words, links, presents, totals, input)
+    replay(
+        file, registers, buffer, words, links, presents, totals, input,
+    )
 }

@@ -1,9 +1,12 @@
 // The files that the arguments name, one after the other.
-ghost use Rattle.std.specs.Prelude.{◌-◌, ◌≤◌};
+ghost use Rattle.std.specs.Prelude.{◌-◌, ◌≤◌, length};
 ghost use Rattle.reporting.specs.Reports.{FilePut, ReportFits, ReportGives};
 
 use crate::lines::{put_lines, unopened};
 use crate::{Filed, Reported};
+use std::env::Env;
+use std::fs::Files;
+use std::io::Write;
 
 // Room for the lines of a file: 63 of at most 318 bytes.
 pub const ROOM: usize = 20480;
@@ -15,8 +18,20 @@ struct Lines {
     written: bool,
 }
 
+// Puts an argument at the start of a run, and answers how many bytes it has: none where it is missing or longer than the run.
+fn put_argument<E: Env>(host: &E, argument: usize, path: &mut [u8]) -> usize
+    ensures { result ≤ length path.new }
+{
+    match host.arg(argument, path) {
+        Ok(n) => n,
+        Err(_) => 0,
+    }
+}
+
 // Writes the lines of the file that an argument names: argument 1 names file 0.
-fn write_lines(
+fn write_lines<H: Env + Files, W: Write>(
+    host: &H,
+    writer: &mut W,
     argument: usize,
     path: &mut [u8],
     words: &mut [u32],
@@ -26,15 +41,17 @@ fn write_lines(
     requires { (1 ≤ argument) × ReportFits words.old input.old out.old }
     ensures { FilePut (argument - 1) result.file words.new input.new out.new }
 {
-    let n = os::arg(argument, path);
-    let file = put_lines(&path[..n], argument as u64 - 1, words, input, out);
-    let written = io::write_all(1, &out[..file.length]);
+    let n = put_argument(host, argument, path);
+    let file = put_lines(host, &path[..n], argument as u64 - 1, words, input, out);
+    let written = writer.write_all(&out[..file.length]).is_ok();
     Lines { file, written }
 }
 
 // Writes the lines of the files that so many arguments name, the first of which is the program's own name. It stops where lines could not
 // be written.
-pub fn run(
+pub fn run<H: Env + Files, W: Write>(
+    host: &H,
+    writer: &mut W,
     count: usize,
     path: &mut [u8],
     words: &mut [u32],
@@ -48,7 +65,7 @@ pub fn run(
     let mut file = unopened(0);
     let mut written = true;
     while written & (next < count) {
-        let lines = write_lines(next, path, words, input, out);
+        let lines = write_lines(host, writer, next, path, words, input, out);
         file = lines.file;
         written = lines.written;
         next += 1;

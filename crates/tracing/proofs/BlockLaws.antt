@@ -5,6 +5,7 @@ use mathlib.Core.Bool.{Bool}
 use mathlib.Core.List.{List}
 use native.Mathlib.Omega.{arith}
 use lib.ListN.{length, take}
+use lib.Seq.{length-take-le}
 use Rattle.slots.specs.Buffer.{Buffer}
 use Rattle.store.specs.Machine.{Machine}
 use Rattle.line.proofs.TextLaws.{begins}
@@ -20,15 +21,17 @@ unfolding commands_of record_count
 records-of input = commands-length input 0 ((length input + 7) / 8)
 
 -- the lines of what was read have room
-pub lines_fit : (input before out : List ℕ) (read number : ℕ) → (read ≤ length input) × (read ≡ length (take read input))
-    → length input ≡ length before → LinesFit before out × (number ≤ LAST)
+pub lines_fit : (input before out : List ℕ) (read number : ℕ) → read ≤ length input → length input ≡ length before
+    → LinesFit before out × (number ≤ LAST)
     → (49 * record_count (length (take read input)) ≤ length out) × (number + length (take read input) < 18446744073709551616)
 unfolding record_count
-lines_fit input before out read number g e h = (omega (arith, g.0, g.1, h.0.0, h.0.1), omega (arith, g.0, g.1, h.0.0, h.1))
+lines_fit input before out read number l e h =
+    let g : length (take read input) ≡ read = length-take-le read input l in
+    (omega (arith, l, g, e, h.0.0, h.0.1), omega (arith, l, g, e, h.0.0, h.1))
 
 module _ (m : Machine) (number read : ℕ) (input before out : List ℕ) (ran : Ran) (buffer : Buffer) (words after : List ℕ)
     (written : Bool) where
-  pub block-gives : (read ≤ length input) × (read ≡ length (take read input)) → length input ≡ length before → length before ≡ BYTES
+  pub block-gives : read ≤ length input → length input ≡ length before → length before ≡ BYTES
       → RunGives m number (take read input) out ran buffer words after
       → BlockGives m number (record {
         registers = ran.registers;
@@ -38,9 +41,9 @@ module _ (m : Machine) (number read : ℕ) (input before out : List ℕ) (ran : 
         written = written;
       }) buffer words input after
   block-gives g e l r = record {
-    read_fits = omega (arith, g.0);
+    read_fits = omega (arith, g, e, l);
     machine-is = r.machine-is;
     number_is =
-        ap (λ (k : ℕ). number + (k + 7) / 8) g.1 ∙ ap (λ (k : ℕ). number + k) (sym (records-of (take read input)));
+        ap (λ (k : ℕ). number + (k + 7) / 8) (sym (length-take-le read input g)) ∙ ap (λ (k : ℕ). number + k) (sym (records-of (take read input)));
     lines_are = begins out (lines_of m number (commands_of (take read input))) ran.length after r.length-is r.lines_are;
   }

@@ -27,9 +27,9 @@ unfolding commands_of commands_from record_count machine_after
 first_block m b buffer words input out g = record { before = []; count = 0; full = refl; block = g }
 
 -- where it goes on, the block is full and the number within the limit
-pub goes_on : (b : Block) → goes_on b ≡ true → (b.read ≡ BYTES) × (b.number ≤ LAST)
+pub goes-on : (b : Block) → goes_on b ≡ true → (b.read ≡ BYTES) × (b.number ≤ LAST)
 unfolding goes_on
-goes_on b h =
+goes-on b h =
     let t = both (b.written && eqb b.read BYTES) (leb b.number LAST) h in (
       eqb-true b.read BYTES (both b.written (eqb b.read BYTES) t.0).1,
       leb-true b.number LAST t.1,

@@ -4,10 +4,14 @@ ghost use Rattle.slots.specs.Buffer.{Buffer};
 ghost use Rattle.tracing.specs.Blocks.{BlockGives, LinesFit, LAST};
 
 use crate::Block;
+use crate::reads::fill;
 use registers::Registers;
+use std::io::{Read, Write};
 
 // Reads a block, makes its calls and writes its lines, from a record number on.
-pub(crate) fn run_block(
+pub(crate) fn run_block<R: Read, W: Write>(
+    reader: &mut R,
+    writer: &mut W,
     r: Registers,
     buffer: &mut [u64],
     words: &mut [u32],
@@ -20,11 +24,11 @@ pub(crate) fn run_block(
         (record { registers = r; buffer = Buffer.Wide buffer.old; words = words.old }) number result
         (Buffer.Wide buffer.new) words.new input.new out.new }
 {
-    let read = io::read_full(0, input);
+    let read = fill(reader, input);
     let ran = trace::run(r, buffer, words, number, &input[..read], out);
     let length = ran.length;
     let registers = ran.registers;
-    let written = io::write_all(1, &out[..length]);
+    let written = writer.write_all(&out[..length]).is_ok();
     Block {
         registers,
         number: number + (read as u64 + 7) / 8,

@@ -1,7 +1,8 @@
-// The trace program's loop: reads records of eight bytes from standard input, block by block, and writes a line for each to standard output.
+// The trace program's loop: reads records of eight bytes from a reader, block by block, and writes a line for each to a writer.
 #![tactic(auto)]
 
 mod blocks;
+mod reads;
 mod traces;
 
 use registers::Registers;

@@ -8,6 +8,7 @@ ghost use Rattle.tracing.specs.Traces.{TraceGives, goes_on};
 use crate::Block;
 use crate::blocks::run_block;
 use registers::Registers;
+use std::io::{Read, Write};
 
 // A full block has 1,024 records of eight bytes.
 pub const BLOCK: usize = 8 * 1024;
@@ -27,7 +28,9 @@ fn goes_on(b: Block) -> bool
 
 // Runs one block after the other, and answers the last one: it is not full, or its lines could not be written. A proved loop has to end,
 // and nothing says that the input does: a block whose record number has passed the limit is the last one too.
-pub fn run_blocks(
+pub fn run_blocks<R: Read, W: Write>(
+    reader: &mut R,
+    writer: &mut W,
     r: Registers,
     buffer: &mut [u64],
     words: &mut [u32],
@@ -39,21 +42,37 @@ pub fn run_blocks(
         (record { registers = r; buffer = Buffer.Wide buffer.old; words = words.old }) result
         (Buffer.Wide buffer.new) words.new input.new out.new }
 {
-    let mut last = run_block(r, buffer, words, 0, input, out);
+    let mut last = run_block(reader, writer, r, buffer, words, 0, input, out);
     while goes_on(last) {
         let registers = last.registers;
-        last = run_block(registers, buffer, words, last.number, input, out);
+        last = run_block(
+            reader,
+            writer,
+            registers,
+            buffer,
+            words,
+            last.number,
+            input,
+            out,
+        );
     }
     last
 }
 
-// Runs the trace on standard input, from the start over zero tables.
-pub fn run(buffer: &mut [u64], words: &mut [u32], input: &mut [u8], out: &mut [u8]) -> Block
+// Runs the trace that a reader gives, from the start over zero tables.
+pub fn run<R: Read, W: Write>(
+    reader: &mut R,
+    writer: &mut W,
+    buffer: &mut [u64],
+    words: &mut [u32],
+    input: &mut [u8],
+    out: &mut [u8],
+) -> Block
     requires { (length buffer.old ≡ 64) × (words.old ≡ replicate WORDS 0) × LinesFit input.old out.old }
     ensures { TraceGives (start_machine (Buffer.Wide buffer.old)) result
         (Buffer.Wide buffer.new) words.new input.new out.new }
 {
     let started = control::start(buffer);
     let registers = started.registers;
-    run_blocks(registers, buffer, words, input, out)
+    run_blocks(reader, writer, registers, buffer, words, input, out)
 }

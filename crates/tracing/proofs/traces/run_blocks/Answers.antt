@@ -1,0 +1,31 @@
+use Rattle.std.proofs.Common.{arith, sym, ◌∙◌}
+use Rattle.tracing.proofs.TraceLaws.{first_block, next-block, last_block, nearer, goes-on}
+use Rattle.tracing.proofs.traces.run_blocks.Goals as goal
+
+pub loop-registers-init : goal.loop-registers-init
+loop-registers-init g c = (
+  first_block _ _ _ _ _ _ c.run_block-last.ensures,
+  (c.run_block-last.auto.input ∙ c.requires.0, c.run_block-last.auto.out ∙ c.requires.1),
+)
+
+pub run_block-last-requires-in-loop-registers : goal.run_block-last-requires-in-loop-registers
+run_block-last-requires-in-loop-registers g c =
+    let on = goes-on c.loop-registers.last (sym c.loop-registers-test.ensures) in
+    (c.loop-registers.invariant.1, omega (arith, on.0, on.1))
+
+pub loop-registers-smaller : goal.loop-registers-smaller
+loop-registers-smaller g c =
+    let on = goes-on c.loop-registers.last (sym c.loop-registers-test.ensures) in
+    nearer _ _ _ _ _ _ _ _ (c.run_block-last-in-loop-registers.auto.input ∙ c.loop-registers.invariant.1.0)
+    c.run_block-last-in-loop-registers.ensures on.0 on.1
+
+pub loop-registers-preserved : goal.loop-registers-preserved
+loop-registers-preserved g c =
+    let on = goes-on c.loop-registers.last (sym c.loop-registers-test.ensures) in
+    let fits = c.loop-registers.invariant.1 in (
+      next-block _ _ _ _ _ _ c.loop-registers.invariant.0 on.0 fits.0 _ _ _ _ _ c.run_block-last-in-loop-registers.ensures,
+      (c.run_block-last-in-loop-registers.auto.input ∙ fits.0, c.run_block-last-in-loop-registers.auto.out ∙ fits.1),
+    )
+
+pub returns : goal.returns
+returns g c = last_block _ _ _ _ _ _ c.loop-registers.invariant.0 (sym c.loop-registers-test.ensures)
