@@ -34,7 +34,7 @@ pub record Shows (r : Registers) (b : Buffer) (slot hi lo : ℕ) (l : Look) : Ty
 unfoldable pub hi_written : Registers → ℕ
 hi_written r = (bits 24 10 r.tlb_hi * 16 + r.select % 16) * 64 + bits 5 0 r.tlb_hi
 
--- After an accepted write to TLB_LO, and any calls that leave its slot alone, a look at that slot shows `hiWritten` and the written value.
+-- After an accepted write to TLB_LO, and any calls that leave its slot alone, a look at that slot shows `hi_written` and the written value.
 unfoldable pub WrittenIsRead : Type 0
 WrittenIsRead =
     (r : Registers) (b after : Buffer) (value : ℕ) (reply : Reply) → WriteGives r b after TLB_LO value reply

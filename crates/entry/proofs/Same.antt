@@ -22,7 +22,7 @@ beq_same : (a : Bool) → beq a a ≡ true
 beq_same true = refl
 beq_same false = refl
 
--- the fields that `sameLow` compares
+-- the fields that `same_low` compares
 pub record LowSame (f g : Entry) : Type 0 where
   pub global : f.global ≡ g.global
   pub valid : f.valid ≡ g.valid

@@ -5,11 +5,9 @@ use mathlib.Core.Logic.{◌≢◌}
 use mathlib.Core.Bool.{true, false}
 use mathlib.Core.List.{List}
 use native.Mathlib.Omega.{arith}
-use lib.ListN.{length, length-set}
-use lib.Seq.{get_or-set_same, get_or-set_other}
+use lib.ListN.{length}
 use borrow.Author.Tests.{eqb-true, eq-eqb, ne_eqb}
-use Rattle.runs.specs.Bits.{bits}
-use Rattle.mups16.specs.Entries.{entries_fit, place_of, entry_at, with_entry, page_of}
+use Rattle.mups16.specs.Entries.{entries_fit, place_of, page_of}
 use Rattle.mups16.specs.States.{index_of}
 use Rattle.mups16.specs.Map.{virtual_page, offset, map_place}
 use Rattle.mups16.specs.declared.State.{State}

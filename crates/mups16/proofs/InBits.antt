@@ -1,11 +1,10 @@
 -- The accepted calls, told by bits, lengths and places alone. Assumes nothing.
 use Prim.Native.Nat.{ℕ, ◌+◌, ◌*◌, ◌/◌, ◌%◌, ◌^◌}
 use mathlib.Core.Path.{◌≡◌, refl, sym, ap, ◌∙◌}
-use mathlib.Core.Bool.{Bool, true, false, not, ◌&&◌}
-use mathlib.Core.List.{List}
+use mathlib.Core.Bool.{Bool, true, not, ◌&&◌}
 use native.Mathlib.Omega.{arith}
 use lib.Dec.{eqb}
-use lib.ListN.{length, get_or}
+use lib.ListN.{get_or}
 use Rattle.runs.specs.Bits.{bits, flag}
 use Rattle.mups16.specs.Entries.{entries_fit, place_of, entry_at, with_entry, mapped, system, writable, page_of}
 use Rattle.mups16.specs.States.{index_of, with_fault}
@@ -13,7 +12,7 @@ use Rattle.mups16.specs.Faults.{no_mapping, write_violation, protection_violatio
 use Rattle.mups16.specs.Map.{virtual_page, offset, boot_mapping, map_place, entry_mapping, state_after}
 use Rattle.mups16.specs.Read.{low_word, high_word, read_low, read_high}
 use Rattle.mups16.specs.Set.{set_answer, entries_after_set}
-use Rattle.mups16.specs.InBits.{entry_address, mapping_by, boot_by, InBits, AcceptedInBits}
+use Rattle.mups16.specs.InBits.{entry_address, mapping_by, boot_by, AcceptedInBits}
 use Rattle.mups16.specs.declared.State.{State}
 use Rattle.mups16.specs.declared.Mapping.{Mapping}
 use Rattle.mups16.specs.declared.Answer.TheVariants.{At, Word}

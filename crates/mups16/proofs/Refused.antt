@@ -1,10 +1,6 @@
 -- A call whose run is not 8,192 long is refused, and changes nothing. Assumes nothing.
-use Prim.Native.Nat.{ℕ}
-use mathlib.Core.Path.{◌≡◌, ap, ◌∙◌}
-use mathlib.Core.Logic.{◌≢◌}
+use mathlib.Core.Path.{◌≡◌, ◌∙◌}
 use mathlib.Core.Bool.{false}
-use mathlib.Core.List.{List}
-use lib.ListN.{length}
 use Rattle.mups16.specs.Entries.{entries_fit}
 use Rattle.mups16.specs.Map.{map_reply}
 use Rattle.mups16.specs.Read.{read_low, read_high}

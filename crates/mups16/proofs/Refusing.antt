@@ -1,9 +1,8 @@
 -- Every call with a run of entries is refused by the run's length alone: its ways, accepted and refused. Assumes nothing.
 use Prim.Native.Nat.{ℕ}
-use mathlib.Core.Path.{◌≡◌, refl, sym, ◌∙◌}
+use mathlib.Core.Path.{◌≡◌, sym, ◌∙◌}
 use mathlib.Core.Bool.{Bool, true, false, cond, not}
 use mathlib.Core.List.{List}
-use native.Mathlib.Omega.{arith}
 use borrow.Author.Tests.{not-true, not-false}
 use Rattle.mups16.specs.Answers.{refusal_of, refusal, by_entries}
 use Rattle.mups16.specs.Entries.{entries_fit}

@@ -1,7 +1,6 @@
 -- What is set is mapped. Assumes nothing.
 use Prim.Native.Nat.{ℕ}
 use mathlib.Core.Path.{◌≡◌, ap, ◌∙◌}
-use mathlib.Core.List.{List}
 use lib.ListN.{length}
 use Rattle.runs.specs.Bits.{bits}
 use Rattle.mups16.specs.Entries.{entry_at}

@@ -1,8 +1,6 @@
 -- What is set is read. Assumes nothing.
 use Prim.Native.Nat.{ℕ, ◌+◌, ◌*◌}
-use mathlib.Core.Path.{◌≡◌, sym, ap, ◌∙◌}
-use mathlib.Core.List.{List}
-use lib.ListN.{length}
+use mathlib.Core.Path.{sym, ap, ◌∙◌}
 use Rattle.runs.specs.Bits.{bits}
 use Rattle.mups16.specs.InBits.{InBits, AcceptedInBits}
 use Rattle.mups16.specs.SetIsRead.{SetIsRead}

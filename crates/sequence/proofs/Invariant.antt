@@ -67,7 +67,7 @@ leaf-for (Broken s) vpn f h = absurd (clash h refl)
 pub stored-fields : (f : Entry) → EntryFits f → unpack (pack f % 2 ^ 44) ≡ f
 stored-fields f h = ap unpack (mod-eq_of_lt (pack-lt f h)) ∙ unpack-pack f h
 
--- ---- the test `matchesPage`
+-- ---- the test `matches_page`
 
 page-of : (id vpn : ℕ) (f : Entry) → matches_page id vpn f ≡ true → f.vpn15 ≡ vpn15_of vpn
 unfolding matches_page vpn15_matches

@@ -1,4 +1,3 @@
-use Prim.Native.Nat.{◌-◌}
 use native.Mathlib.Omega.{arith}
 use Rattle.rows.proofs.RowLaws.{growing-none, growing-room, growing-more, rows_none, rows_more, report-put}
 use Rattle.rows.proofs.put_report.Goals as goal

@@ -1,6 +1,5 @@
 use mir.Syntax.{w64}
 use mir.ValLaws.{to_z-of_z}
-use Prim.Native.Nat.{◌-◌}
 use native.Mathlib.Omega.{arith}
 use Rattle.rows.proofs.RowLaws.{growing-none, growing-room, growing-more, growing-all, totals-none, totals-more}
 use Rattle.rows.proofs.row.put_totals.Goals as goal
