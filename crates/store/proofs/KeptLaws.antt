@@ -1,16 +1,13 @@
 -- The ways through the test that keeps a slot, and the turns of the sweep. Assumes nothing.
 use Prim.Native.Nat.{ℕ, ◌+◌, ◌*◌, ◌/◌, ◌%◌, ◌^◌, ◌≤◌, ◌<◌}
 use mathlib.Core.Path.{◌≡◌, refl, sym, ap, ◌∙◌, subst}
-use mathlib.Core.Logic.{⊎_elim}
 use mathlib.Core.Bool.{Bool, true, false, cond, not, ◌&&◌, ◌||◌}
-use mathlib.Core.List.{List, [], ◌∷◌}
+use mathlib.Core.List.{List}
 use native.Mathlib.Numerals.{add-one}
 use native.Mathlib.Omega.{arith}
 use lib.Dec.{eqb, leb}
 use lib.ListN.{length}
 use borrow.Author.Tests.{eq-eqb, ne_eqb, leb-true, le-leb, lt-leb}
-use types.Run.{OneOf}
-use denote.Enum.Declared.{tag_of}
 use Rattle.runs.specs.Bits.{bit}
 use Rattle.runs.specs.Counts.{count}
 use Rattle.runs.proofs.Bits.{bits-low, bit_le}
@@ -26,7 +23,6 @@ use Rattle.page_table.specs.Walk.{walk_page}
 use Rattle.page_table.specs.declared.Found.{Found}
 use Rattle.page_table.specs.declared.Walk.{Walk}
 use Rattle.page_table.specs.declared.Walk.TheVariants.{Leaf, Absent, Broken}
-use Rattle.page_table.specs.contracts.Walk.{the_type}
 use Rattle.slots.specs.Buffer.{Buffer, buffer_fits, slot_at, with_slot}
 use Rattle.slots.specs.Buffer.Buffer.{Wide}
 use Rattle.slots.proofs.Slots.{fits-length, slot_lt}

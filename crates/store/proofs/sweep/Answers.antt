@@ -1,5 +1,4 @@
 -- `store::sweep` meets its contract: the loop's invariant is `Sweeping`. Assumes nothing.
-use Prim.Native.Nat.{◌-◌}
 use native.Mathlib.Omega.{arith}
 use mathlib.Core.Path.{refl}
 use Rattle.store.proofs.KeptLaws.{entry_lt, sweep-begin, sweep-fits, sweep-turn, number-le, goes-le, same-run, sweep-end}
