@@ -7,14 +7,16 @@ use registers::refusals;
 pub fn mmu_guarded_setting(registers: &mut [u8], number: u32, value: u32) -> u64
     ensures { GuardedSettingGives registers.old number value result registers.new }
 {
-    if registers.len() != crate::REGISTER_BYTES {
+    let long = registers.len() == crate::REGISTER_BYTES;
+    if !long {
         return crate::refusal_answer(refusals::REGISTERS);
     }
     let r = crate::registers_of(registers);
     let reply = control::guarded_setting(r, number, value);
     let answer = crate::reply_answer(reply);
     // A setting that is accepted answers 0.
-    if answer != 0 {
+    let accepted = answer == 0;
+    if !accepted {
         return answer;
     }
     wire::put_word(registers, number as usize, value);

@@ -25,12 +25,14 @@ fn raw_with(registers: &mut [u8], buffer: &[u8], slots: &mut [u64], a: Access) -
     requires { length slots.old ≡ 64 }
     ensures { RawAccessGives registers.old buffer.now a result registers.new }
 {
-    if registers.len() != crate::REGISTER_BYTES {
+    let long = registers.len() == crate::REGISTER_BYTES;
+    if !long {
         return crate::refusal_answer(refusals::REGISTERS);
     }
     let r = crate::registers_of(registers);
     let refusal = raw_refusal(r, buffer, a);
-    if refusal != 0 {
+    let accepted = refusal == 0;
+    if !accepted {
         return crate::refusal_answer(refusal);
     }
     let t = crate::first_try(r, buffer, slots, a);

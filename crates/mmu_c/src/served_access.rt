@@ -25,7 +25,8 @@ fn served_refusal(r: Registers, buffer: &[u8], tables: &[u8], a: Access) -> u32
         crate::buffer_taken(buffer),
         crate::tables_taken(tables),
     );
-    if early != 0 {
+    let passed = early == 0;
+    if !passed {
         return early;
     }
     mmu::service_refusal(r, a.draw)
@@ -85,12 +86,14 @@ fn served_with(
     ensures { ServedAccessGives registers.old buffer.old tables.now a result
         registers.new buffer.new }
 {
-    if registers.len() != crate::REGISTER_BYTES {
+    let long = registers.len() == crate::REGISTER_BYTES;
+    if !long {
         return crate::refusal_answer(refusals::REGISTERS);
     }
     let r = crate::registers_of(registers);
     let refusal = served_refusal(r, buffer, tables, a);
-    if refusal != 0 {
+    let accepted = refusal == 0;
+    if !accepted {
         return crate::refusal_answer(refusal);
     }
     let first = crate::first_try(r, buffer, slots, a);

@@ -8,7 +8,8 @@ fn start_with(registers: &mut [u8], buffer: &mut [u8], slots: &mut [u64]) -> u64
     requires { length slots.old ≡ 64 }
     ensures { StartGives registers.old buffer.old result registers.new buffer.new }
 {
-    if registers.len() != crate::REGISTER_BYTES {
+    let long = registers.len() == crate::REGISTER_BYTES;
+    if !long {
         return crate::refusal_answer(refusals::REGISTERS);
     }
     if !crate::buffer_taken(buffer) {

@@ -12,7 +12,8 @@ fn store_refusal(registers: &[u8], buffer: &[u8], tables: &[u8], index: u32) -> 
         crate::buffer_taken(buffer),
         crate::tables_taken(tables),
     );
-    if early != 0 {
+    let passed = early == 0;
+    if !passed {
         return early;
     }
     let index_fits = (index as usize) < tables.len() / 4;
@@ -35,7 +36,8 @@ fn store_with(
         (record { index = index; value = value }) result buffer.new tables.new }
 {
     let refusal = store_refusal(registers, buffer, tables, index);
-    if refusal != 0 {
+    let accepted = refusal == 0;
+    if !accepted {
         return crate::refusal_answer(refusal);
     }
     wire::decode64(buffer, slots);

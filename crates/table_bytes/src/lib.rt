@@ -33,7 +33,8 @@ fn descend(tables: &&[u8], vpn: u32, levels: u32, word: u32, index: u32) -> u64
     requires { (vpn < PAGES) × (levels ≤ 2) × (index < LONGEST) × (word ≡ get_or (words_of tables.now.now) index 0) }
     ensures { result ≡ end_read (words_of tables.now.now) vpn levels index }
 {
-    if levels == 0 {
+    let last = levels == 0;
+    if last {
         return page_table::end_at(levels, word, index);
     }
     let run = *tables;

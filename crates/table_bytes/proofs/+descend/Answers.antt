@@ -6,14 +6,14 @@ use Rattle.page_table.proofs.Descents.{below-lt, end-leaf, end-stuck, end_on}
 use Rattle.table_bytes.proofs.Steps.{in_words, next-inside, next-stands}
 use Rattle.table_bytes.proofs.+descend.Goals as goal
 
-pub returns-then-levels-eq0 : goal.returns-then-levels-eq0
-returns-then-levels-eq0 t c =
-    end-leaf _ _ _ _ _ c.requires.1 c.requires.3 _ c.if-levels-eq0.true c.end_at.ensures
+pub returns-then-last : goal.returns-then-last
+returns-then-last t c =
+    end-leaf _ _ _ _ _ c.requires.1 c.requires.3 _ c.if-last.true c.end_at.ensures
 
 pub returns-then-not-leads_on : goal.returns-then-not-leads_on
 returns-then-not-leads_on t c =
     let judged = in_words _ _ _ _ c.leads_on.ensures in
-    end-stuck _ _ _ _ _ c.requires.1 c.requires.3 _ c.if-levels-eq0.false _ judged (ap not c.if-not-leads_on.true)
+    end-stuck _ _ _ _ _ c.requires.1 c.requires.3 _ c.if-last.false _ judged (ap not c.if-not-leads_on.true)
     c.end_at-then-not-leads_on.ensures
 
 pub stretch-part-requires : goal.stretch-part-requires
@@ -26,7 +26,7 @@ word_at-next-requires t c =
 
 pub descend-requires : goal.descend-requires
 descend-requires t c =
-    let more = pos_of_ne-zero c.if-levels-eq0.false in
+    let more = pos_of_ne-zero c.if-last.false in
     let on = sym (in_words _ _ _ _ c.leads_on.ensures) ∙ c.if-not-leads_on.false in
     let stands =
     next-stands _ _ _ on _ c.requires.0 _ c.stretch-part.ensures _ c.index_in-at.ensures _ _ c.word_at-next.ensures
@@ -37,5 +37,5 @@ descend-requires t c =
 pub returns : goal.returns
 returns t c =
     let judged = in_words _ _ _ _ c.leads_on.ensures in
-    end_on _ _ _ _ _ c.requires.1 c.requires.3 _ c.if-levels-eq0.false _ judged (ap not c.if-not-leads_on.false) _
+    end_on _ _ _ _ _ c.requires.1 c.requires.3 _ c.if-last.false _ judged (ap not c.if-not-leads_on.false) _
     c.index_below.ensures c.descend.ensures

@@ -2,22 +2,22 @@ use native.Mathlib.Omega.{arith}
 use Rattle.mmu_c.proofs.RawLaws.{refusal-short, refusal-long, refusal-lt, lengths, accepted, refused, tried, plain-tried, value_room}
 use Rattle.mmu_c.proofs.raw_access.raw_with.Goals as goal
 
-pub returns-then-registers-ne-REGISTER_BYTES : goal.returns-then-registers-ne-REGISTER_BYTES
-returns-then-registers-ne-REGISTER_BYTES c = refused _ _ _ _ (refusal-short _ _ _ c.if-registers-ne-REGISTER_BYTES.true) _ (λ e. omega arith) c.refusal_answer.ensures
+pub returns-then-not-long : goal.returns-then-not-long
+returns-then-not-long c = refused _ _ _ _ (refusal-short _ _ _ c.if-not-long.true) _ (λ e. omega arith) c.refusal_answer.ensures
 
-pub refusal_answer-requires-then-refusal-ne0 : goal.refusal_answer-requires-then-refusal-ne0
-refusal_answer-requires-then-refusal-ne0 c = let q = refusal-long _ _ c.args.a _ _
-    c.if-registers-ne-REGISTER_BYTES.false c.registers_of-r.ensures.registers c.raw_refusal-refusal.ensures in
+pub refusal_answer-requires-then-not-accepted : goal.refusal_answer-requires-then-not-accepted
+refusal_answer-requires-then-not-accepted c = let q = refusal-long _ _ c.args.a _ _
+    c.if-not-long.false c.registers_of-r.ensures.registers c.raw_refusal-refusal.ensures in
     refusal-lt _ _ _ _ q
 
-pub returns-then-refusal-ne0 : goal.returns-then-refusal-ne0
-returns-then-refusal-ne0 c = let q = refusal-long _ _ _ _ _ c.if-registers-ne-REGISTER_BYTES.false c.registers_of-r.ensures.registers c.raw_refusal-refusal.ensures in
-    refused _ _ _ _ q _ c.if-refusal-ne0.true c.refusal_answer-then-refusal-ne0.ensures
+pub returns-then-not-accepted : goal.returns-then-not-accepted
+returns-then-not-accepted c = let q = refusal-long _ _ _ _ _ c.if-not-long.false c.registers_of-r.ensures.registers c.raw_refusal-refusal.ensures in
+    refused _ _ _ _ q _ c.if-not-accepted.true c.refusal_answer-then-not-accepted.ensures
 
 pub first_try-t-requires : goal.first_try-t-requires
-first_try-t-requires c = let q = refusal-long _ _ _ _ _ c.if-registers-ne-REGISTER_BYTES.false c.registers_of-r.ensures.registers c.raw_refusal-refusal.ensures in (
-  accepted _ _ _ _ q c.if-refusal-ne0.false _ c.registers_of-r.ensures.registers,
-  (lengths _ _ _ _ q c.if-refusal-ne0.false).1,
+first_try-t-requires c = let q = refusal-long _ _ _ _ _ c.if-not-long.false c.registers_of-r.ensures.registers c.raw_refusal-refusal.ensures in (
+  accepted _ _ _ _ q c.if-not-accepted.false _ c.registers_of-r.ensures.registers,
+  (lengths _ _ _ _ q c.if-not-accepted.false).1,
   c.requires,
 )
 
@@ -25,18 +25,18 @@ pub translation_answer-requires : goal.translation_answer-requires
 translation_answer-requires c = value_room _ _ _ _ c.first_try-t.ensures.answer
 
 pub returns-then-not-t : goal.returns-then-not-t
-returns-then-not-t c = let q = refusal-long _ _ _ _ _ c.if-registers-ne-REGISTER_BYTES.false c.registers_of-r.ensures.registers c.raw_refusal-refusal.ensures in
-    plain-tried _ _ _ _ q _ _ c.if-refusal-ne0.false c.registers_of-r.ensures.registers c.first_try-t.ensures.answer _
+returns-then-not-t c = let q = refusal-long _ _ _ _ _ c.if-not-long.false c.registers_of-r.ensures.registers c.raw_refusal-refusal.ensures in
+    plain-tried _ _ _ _ q _ _ c.if-not-accepted.false c.registers_of-r.ensures.registers c.first_try-t.ensures.answer _
     c.registers_of-r.ensures.bytes c.if-not-t.true c.translation_answer.ensures
 
 pub put_registers-requires : goal.put_registers-requires
-put_registers-requires c = c.if-registers-ne-REGISTER_BYTES.false
+put_registers-requires c = c.if-not-long.false
 
 pub translation_answer-requires-2 : goal.translation_answer-requires-2
 translation_answer-requires-2 c = value_room _ _ _ _
     c.first_try-t.ensures.answer
 
 pub returns : goal.returns
-returns c = let q = refusal-long _ _ _ _ _ c.if-registers-ne-REGISTER_BYTES.false c.registers_of-r.ensures.registers c.raw_refusal-refusal.ensures in
-    tried _ _ _ _ q _ _ c.if-refusal-ne0.false c.registers_of-r.ensures.registers c.first_try-t.ensures.answer _ _
+returns c = let q = refusal-long _ _ _ _ _ c.if-not-long.false c.registers_of-r.ensures.registers c.raw_refusal-refusal.ensures in
+    tried _ _ _ _ q _ _ c.if-not-accepted.false c.registers_of-r.ensures.registers c.first_try-t.ensures.answer _ _
     c.put_registers.ensures c.translation_answer-2.ensures

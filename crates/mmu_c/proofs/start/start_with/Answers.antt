@@ -6,12 +6,12 @@ use Rattle.mmu_c.proofs.RunLaws.{buffer-told}
 use Rattle.mmu_c.proofs.StartLaws.{short, long, refused, started}
 use Rattle.mmu_c.proofs.start.start_with.Goals as goal
 
-pub returns-then-registers-ne-REGISTER_BYTES : goal.returns-then-registers-ne-REGISTER_BYTES
-returns-then-registers-ne-REGISTER_BYTES c = refused _ _ 1 _ (short _ _ c.if-registers-ne-REGISTER_BYTES.true) (λ e. omega arith) c.refusal_answer.ensures
+pub returns-then-not-long : goal.returns-then-not-long
+returns-then-not-long c = refused _ _ 1 _ (short _ _ c.if-not-long.true) (λ e. omega arith) c.refusal_answer.ensures
 
 pub returns-then-not-buffer_taken : goal.returns-then-not-buffer_taken
 returns-then-not-buffer_taken c = refused _ _ 2 _
-    (long _ _ 2 c.if-registers-ne-REGISTER_BYTES.false (refuse-here _ _ _ _ c.buffer_taken.ensures (ap not c.if-not-buffer_taken.true)))
+    (long _ _ 2 c.if-not-long.false (refuse-here _ _ _ _ c.buffer_taken.ensures (ap not c.if-not-buffer_taken.true)))
     (λ e. omega arith) c.refusal_answer-then-not-buffer_taken.ensures
 
 pub encode64-requires : goal.encode64-requires
@@ -24,5 +24,5 @@ encode64-requires c = omega (
 
 pub returns : goal.returns
 returns c = started _ _ _ _ _ _ _
-    (long _ _ 0 c.if-registers-ne-REGISTER_BYTES.false (refuse-later _ _ _ _ c.buffer_taken.ensures _ (ap not c.if-not-buffer_taken.false) refl))
+    (long _ _ 0 c.if-not-long.false (refuse-later _ _ _ _ c.buffer_taken.ensures _ (ap not c.if-not-buffer_taken.false) refl))
     c.requires c.start-reply.ensures c.put_registers.ensures c.encode64.ensures

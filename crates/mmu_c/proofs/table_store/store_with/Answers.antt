@@ -8,19 +8,19 @@ use Rattle.mmu_c.proofs.table_store.store_with.Goals as goal
 pub refusal_answer-requires : goal.refusal_answer-requires
 refusal_answer-requires c = refusal-lt _ _ _ _ _ c.store_refusal-refusal.ensures
 
-pub returns-then-refusal-ne0 : goal.returns-then-refusal-ne0
-returns-then-refusal-ne0 c = refused _ _ _ _ _ c.store_refusal-refusal.ensures _ c.if-refusal-ne0.true c.refusal_answer.ensures
+pub returns-then-not-accepted : goal.returns-then-not-accepted
+returns-then-not-accepted c = refused _ _ _ _ _ c.store_refusal-refusal.ensures _ c.if-not-accepted.true c.refusal_answer.ensures
 
 pub decode64-requires : goal.decode64-requires
 decode64-requires c = omega (
   arith,
   (lengths _ _ _ _ _ c.store_refusal-refusal.ensures
-      c.if-refusal-ne0.false).0,
+      c.if-not-accepted.false).0,
   c.requires,
 )
 
 pub rewrite-emptied-requires : goal.rewrite-emptied-requires
-rewrite-emptied-requires c = let n = lengths _ _ _ _ _ c.store_refusal-refusal.ensures c.if-refusal-ne0.false in (
+rewrite-emptied-requires c = let n = lengths _ _ _ _ _ c.store_refusal-refusal.ensures c.if-not-accepted.false in (
   run_fits _ (c.decode64.auto.numbers
       ∙ c.requires),
   n.1,
@@ -29,7 +29,7 @@ rewrite-emptied-requires c = let n = lengths _ _ _ _ _ c.store_refusal-refusal.e
 
 pub encode64-requires : goal.encode64-requires
 encode64-requires c = let n = lengths _ _ _ _ _ c.store_refusal-refusal.ensures
-    c.if-refusal-ne0.false in omega (
+    c.if-not-accepted.false in omega (
       arith,
       n.0,
       c.rewrite-emptied.auto.buffer ∙ c.decode64.auto.numbers
@@ -37,7 +37,7 @@ encode64-requires c = let n = lengths _ _ _ _ _ c.store_refusal-refusal.ensures
     )
 
 pub returns : goal.returns
-returns c = stored _ _ _ _ _ c.store_refusal-refusal.ensures _ _ _ _ _ c.if-refusal-ne0.false
+returns c = stored _ _ _ _ _ c.store_refusal-refusal.ensures _ _ _ _ _ c.if-not-accepted.false
     (c.decode64.ensures ∙ ap (decoded 8 _)
     c.requires) c.rewrite-emptied.ensures
     c.encode64.ensures
