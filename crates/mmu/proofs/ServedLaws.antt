@@ -1,15 +1,11 @@
 -- What a served access that is not refused was handed, and the ways through it. Assumes nothing.
 use Prim.Native.Nat.{ℕ, ◌≤◌, ◌<◌}
 use mathlib.Core.Path.{◌≡◌, refl, sym, ap, ◌∙◌, subst}
-use mathlib.Core.Logic.{⊎_elim}
 use mathlib.Core.Bool.{Bool, true, false, cond, not, ◌&&◌, not-not}
-use mathlib.Core.List.{[], ◌∷◌}
 use native.Mathlib.Omega.{arith}
 use lib.Dec.{eqb}
 use lib.ListN.{length}
 use borrow.Author.Tests.{eq-eqb, ne_eqb}
-use types.Run.{OneOf}
-use denote.Enum.Declared.{tag_of}
 use Rattle.entry.specs.Address.{vpn_of}
 use Rattle.entry.specs.Entry.{pack}
 use Rattle.entry.proofs.Fields.{vpn-lt}
@@ -28,7 +24,6 @@ use Rattle.page_table.specs.Faults.{walk_fault}
 use Rattle.page_table.specs.declared.Found.{Found}
 use Rattle.page_table.specs.declared.Walk.{Walk}
 use Rattle.page_table.specs.declared.Walk.TheVariants.{Leaf, Absent, Broken}
-use Rattle.page_table.specs.contracts.Walk.{the_type}
 use Rattle.slots.specs.Buffer.{Buffer, buffer_fits}
 use Rattle.tlb.specs.Load.{loaded_buffer, LoadGives}
 use Rattle.tlb.proofs.Loads.{load-slot-lt, load_fits}

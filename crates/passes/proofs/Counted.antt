@@ -1,14 +1,11 @@
 -- The number that a pass answers is that of the frames that went back. Assumes nothing.
-use Prim.Native.Nat.{ℕ, ◌+◌}
-use mathlib.Core.Path.{◌≡◌, refl, sym, ap, ap₂, ◌∙◌, subst}
+use Prim.Native.Nat.{◌+◌}
+use mathlib.Core.Path.{◌≡◌, sym, ap, ◌∙◌}
 use mathlib.Core.Logic.{⊎_elim}
-use mathlib.Core.List.{List}
 use native.Mathlib.Nat.{zero-add}
 use native.Mathlib.Omega.{arith}
-use lib.ListN.{length}
 use Rattle.heap.specs.Pools.{held_frames}
 use Rattle.registers.proofs.RefusalLaws.{by_number}
-use Rattle.heap.specs.declared.Pool.{Pool}
 use Rattle.collector.specs.Collect.{visited_by, collect_refusal, refused_collect, collect_answer}
 use Rattle.collector.specs.declared.Collected.{Collected}
 use Rattle.passes.specs.Frames.{GivenCounted}

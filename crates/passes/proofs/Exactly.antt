@@ -3,10 +3,9 @@ use Prim.Native.Nat.{ℕ, zero, suc, ◌+◌, ◌≤◌, ◌<◌}
 use mathlib.Core.Path.{◌≡◌, refl, sym, ap, ◌∙◌, subst}
 use mathlib.Core.Logic.{◌⊎◌, inl, inr, ⊎_elim}
 use mathlib.Core.Bool.{Bool, true, false, cond}
-use mathlib.Core.List.{List, [], ◌∷◌, ◌++◌}
+use mathlib.Core.List.{List, [], ◌∷◌}
 use native.Mathlib.Nat.{eq-or-lt_of_le, le_of_suc-le-suc, zero-add, lt-suc_self}
 use native.Mathlib.Omega.{arith}
-use lib.ListN.{length}
 use lib.Dec.{eqb, leb}
 use borrow.Author.Tests.{eq-eqb, eqb-true, leb-true, leb-false, le-leb}
 use Rattle.runs.specs.Bits.{bit}
@@ -16,26 +15,24 @@ use Rattle.page_table.specs.Walk.{walk_tree}
 use Rattle.page_table.specs.declared.Found.{Found}
 use Rattle.page_table.specs.declared.Walk.{Walk}
 use Rattle.page_table.specs.declared.Walk.TheVariants.{Leaf, Absent, Broken}
-use Rattle.store.specs.Machine.{Machine}
 use Rattle.store.specs.Rewrite.{Put}
 use Rattle.store.specs.Scan.{put_at}
-use Rattle.heap.specs.Pools.{pool_fits, holds}
+use Rattle.heap.specs.Pools.{holds}
 use Rattle.heap.specs.Sequences.{times}
 use Rattle.heap.specs.declared.Pool.{Pool}
 use Rattle.heap.proofs.Marks.{Sound}
 use Rattle.heap.proofs.Accounts.{times-append}
-use Rattle.trees.specs.Trees.{tree_fits}
-use Rattle.trees.specs.Fitting.{TreeRight, FitsMeans}
+use Rattle.trees.specs.Fitting.{FitsMeans}
 use Rattle.trees.proofs.FitLaws.{fits-means}
 use Rattle.collector.specs.Visits.{in_pool, pass_leaves}
-use Rattle.collector.specs.Frames.{pfns_of, mapped_right, all_given}
-use Rattle.registers.specs.Refusals.{refuse_unless, machine_refusal}
+use Rattle.collector.specs.Frames.{pfns_of, all_given}
+use Rattle.registers.specs.Refusals.{refuse_unless}
 use Rattle.runs.proofs.Bools.{is_false}
 use Rattle.collector.specs.Collect.{may_collect, collect_refusal}
 use Rattle.collector.proofs.CheckLaws.{pfns-append}
-use Rattle.collector.proofs.FrameLaws.{Within, all-within, within_all}
+use Rattle.collector.proofs.FrameLaws.{all-within, within_all}
 use Rattle.collector.proofs.Visited.{pass-frames}
-use Rattle.collector.proofs.CollectLaws.{Grounds, collect-grounds}
+use Rattle.collector.proofs.CollectLaws.{collect-grounds}
 use Rattle.passes.specs.Pages.{page_leaf, page_leaves, VisitsPages}
 use Rattle.passes.specs.Accepted.{FramesRight, AcceptedExactly, RefusedInOrder}
 use Rattle.passes.proofs.Ages.{in-pool, pool-in}

@@ -2,20 +2,18 @@
 use Prim.Native.Nat.{ℕ, zero, suc, ◌+◌, ◌≤◌, ◌<◌}
 use mathlib.Core.Path.{◌≡◌, refl, sym, ap, ◌∙◌, subst}
 use mathlib.Core.Bool.{Bool, true, false, cond}
-use mathlib.Core.List.{List, [], ◌∷◌, ◌++◌}
-use native.Mathlib.Nat.{zero-add}
+use mathlib.Core.List.{List, [], ◌∷◌}
 use native.Mathlib.Omega.{arith}
 use lib.ListN.{get_or}
 use Rattle.page_table.specs.Words.{leaf_pfn}
 use Rattle.page_table.specs.Walk.{walk_tree}
-use Rattle.page_table.specs.declared.Found.{Found}
 use Rattle.page_table.specs.declared.Walk.{Walk}
 use Rattle.page_table.specs.declared.Walk.TheVariants.{Leaf, Absent, Broken}
 use Rattle.store.specs.Rewrite.{Put}
 use Rattle.store.specs.Scan.{put_at}
 use Rattle.store.proofs.Scans.{Every, Elsewhere, elsewhere-both, written-other}
 use Rattle.heap.specs.declared.Pool.{Pool}
-use Rattle.collector.specs.Visits.{in_pool, aged, aged_puts, pass_leaves}
+use Rattle.collector.specs.Visits.{in_pool, aged_puts, pass_leaves}
 use Rattle.collector.proofs.Puts.{aged-append, pass_words}
 use Rattle.passes.specs.Pages.{page_leaf, page_leaves, VisitsPages}
 use Rattle.passes.specs.Only.{IsVisited, OnlyVisitedChange}

@@ -1,5 +1,5 @@
 -- A pass changes the leaves that it visits, and no other word.
-use Rattle.std.specs.Prelude.{ℕ, ◌+◌, ◌≤◌, ◌<◌, ◌≡◌, false, List, length, get_or}
+use Rattle.std.specs.Prelude.{ℕ, ◌+◌, ◌≤◌, ◌<◌, ◌≡◌, false, List, get_or}
 use Rattle.entry.specs.Address.{PAGES}
 use Rattle.page_table.specs.Words.{leaf_pfn}
 use Rattle.page_table.specs.Walk.{walk_tree}

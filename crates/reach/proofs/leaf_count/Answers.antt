@@ -1,4 +1,3 @@
-use Prim.Native.Nat.{◌-◌}
 use native.Mathlib.Omega.{arith}
 use Rattle.reach.specs.Index.{table_count}
 use Rattle.reach.proofs.PresentLaws.{counted_none, counted-more, counted_skip}

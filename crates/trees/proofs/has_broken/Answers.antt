@@ -1,4 +1,3 @@
-use Prim.Native.Nat.{◌-◌}
 use native.Mathlib.Omega.{arith}
 use Rattle.runs.proofs.Searches.{search-none, search-found, search-on, search-all}
 use Rattle.page_table.specs.Stretches.{directory_word}

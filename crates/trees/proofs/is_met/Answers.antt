@@ -1,7 +1,6 @@
-use Prim.Native.Nat.{◌-◌}
 use native.Mathlib.Omega.{arith}
 use Rattle.runs.proofs.Searches.{search-none, search-found, search-on, search-all}
-use Rattle.trees.specs.Trees.{meets_root, met}
+use Rattle.trees.specs.Trees.{met}
 use Rattle.trees.proofs.is_met.Goals as goal
 
 pub loop-root-init : goal.loop-root-init

@@ -1,8 +1,6 @@
-use Prim.Native.Nat.{◌-◌}
 use native.Mathlib.Omega.{arith}
 use Rattle.runs.proofs.Searches.{search-none, search-found, search-on, search-all}
 use Rattle.page_table.specs.Stretches.{directory_word}
-use Rattle.reach.specs.Reach.{leads_to}
 use Rattle.trees.specs.Trees.{names_table}
 use Rattle.trees.proofs.names_table.Goals as goal
 

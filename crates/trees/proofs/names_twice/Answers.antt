@@ -1,8 +1,7 @@
-use Prim.Native.Nat.{◌-◌}
 use native.Mathlib.Omega.{arith}
 use Rattle.runs.proofs.Searches.{search-none, search-found, search-on, search-all}
 use Rattle.page_table.specs.Stretches.{directory_word}
-use Rattle.trees.specs.Trees.{also_named, names_twice}
+use Rattle.trees.specs.Trees.{names_twice}
 use Rattle.trees.proofs.names_twice.Goals as goal
 
 pub loop-j-init : goal.loop-j-init

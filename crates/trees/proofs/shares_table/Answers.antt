@@ -1,8 +1,7 @@
-use Prim.Native.Nat.{◌-◌}
 use native.Mathlib.Omega.{arith}
 use Rattle.runs.proofs.Searches.{search-none, search-found, search-on, search-all}
 use Rattle.page_table.specs.Stretches.{directory_word}
-use Rattle.trees.specs.Trees.{also_named, shares_table}
+use Rattle.trees.specs.Trees.{shares_table}
 use Rattle.trees.proofs.shares_table.Goals as goal
 
 pub loop-j-init : goal.loop-j-init

@@ -1,6 +1,5 @@
 use Rattle.slots.proofs.Slots.{fits-length}
 use Rattle.collector.proofs.WordLaws.{visited-present}
-use Prim.Native.Nat.{◌-◌}
 use mathlib.Core.Path.{refl, sym, ◌∙◌}
 use native.Mathlib.Omega.{arith}
 use Rattle.collector.proofs.TurnLaws.{going-none, going-length, going-fits, going-given, going-emptied, going-visit}
