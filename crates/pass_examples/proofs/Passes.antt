@@ -14,7 +14,7 @@ use Rattle.registers.specs.Replies.{done}
 use Rattle.page_table.specs.Words.{present, reserved, number, leaf_valid, leaf_kernel, leaf_we, leaf_pfn}
 use Rattle.page_table.specs.Stretches.{length_fits, tables_fit, stretch_size, index_in, inside, broken}
 use Rattle.page_table.specs.Walk.{leaf_at, stop_at, index_below, descend, walk_tree, global_first, walk_page}
-use Rattle.slots.specs.Buffer.{Buffer, buffer_fits, slot_at, with_slot}
+use Rattle.slots.specs.Buffer.{buffer_fits, slot_at, with_slot}
 use Rattle.slots.specs.Start.{empty_first, start_buffer}
 use Rattle.store.specs.Leaf.{leaf_entry}
 use Rattle.store.specs.Sweep.{is_empty, agrees_with_leaf, agrees_with_tables, kept, kept_at, settled, swept_slot, swept_first, swept, emptied}
