@@ -1,4 +1,3 @@
-use Rattle.std.proofs.Common.{arith}
 use Rattle.reporting.proofs.ReportLaws.{opened, not_opened}
 use Rattle.reporting.proofs.lines.put_lines.Goals as goal
 
