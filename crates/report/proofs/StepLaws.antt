@@ -1,7 +1,6 @@
 -- A record's step leads where its tally leads. Assumes nothing.
-use Prim.Native.Nat.{ℕ, zero, suc, ◌≤◌, ◌<◌}
+use Prim.Native.Nat.{ℕ, ◌≤◌, ◌<◌}
 use mathlib.Core.Path.{◌≡◌, refl, sym, ap, ap₂, subst, ◌∙◌}
-use mathlib.Core.Logic.{⊎_elim}
 use mathlib.Core.Bool.{Bool, true, false, cond}
 use mathlib.Core.List.{List, [], ◌∷◌}
 use native.Mathlib.Omega.{arith}
@@ -10,15 +9,12 @@ use lib.Seq.{ext_get_or, get_or-set_same, get_or-set_other}
 use lib.Dec.{eqb}
 use lib.IntN.{ℤ, pos, ◌-ℤ◌}
 use borrow.Author.Tests.{eqb-true, eqb-false}
-use types.Run.{OneOf}
-use denote.Enum.Declared.{tag_of}
 use Rattle.registers.specs.Refusals.{by_refusal}
 use Rattle.registers.specs.Replies.{refused, done}
 use Rattle.registers.specs.declared.Access.{Access}
 use Rattle.registers.specs.declared.Outcome.{Outcome}
-use Rattle.registers.specs.declared.Outcome.TheVariants.{At, Fault, Done, Refused}
+use Rattle.registers.specs.declared.Outcome.TheVariants.{Done}
 use Rattle.registers.specs.declared.Reply.{Reply}
-use Rattle.registers.specs.contracts.Outcome.{the_type}
 use Rattle.page_table.specs.Stretches.{length_fits, tables_fit}
 use Rattle.slots.specs.Buffer.{Buffer}
 use Rattle.store.specs.Machine.{Machine}
@@ -28,12 +24,12 @@ use Rattle.store.specs.TableStore.{store_refusal, stored_words, store_reply, wor
 use Rattle.store.proofs.StoreLaws.{store-accepted}
 use Rattle.reach.specs.Leaves.{leaf_count}
 use Rattle.reach.specs.Index.{Indexes}
-use Rattle.trace.specs.Steps.{step_reply, buffer_after_step, words_after_step, machine_after_step, StepGives}
+use Rattle.trace.specs.Steps.{step_reply, words_after_step, machine_after_step, StepGives}
 use Rattle.trace.specs.declared.Command.{Command}
 use Rattle.trace.specs.declared.Command.TheVariants.{Serve, Store, Set, Malformed}
-use Rattle.report.specs.Totals.{Gain, Booked, EMPTIED, CHANGE, booked_all, AllWithin, BookAllGives}
+use Rattle.report.specs.Totals.{Gain, EMPTIED, CHANGE, booked_all, AllWithin, BookAllGives}
 use Rattle.report.specs.Gains.{gain, access_gains, store_gains, leaf_change, gains_of}
-use Rattle.report.specs.Tallies.{Tally, booked_by, tally_step, CountGives, AccessCountGives, PlainCountGives}
+use Rattle.report.specs.Tallies.{booked_by, tally_step, CountGives, AccessCountGives, PlainCountGives}
 use Rattle.report.specs.declared.Counted.{Counted}
 use Rattle.report.proofs.TotalLaws.{books-none}
 

@@ -1,6 +1,6 @@
 -- Tallies compose, and the turns of the loop that makes one. Assumes nothing.
-use Prim.Native.Nat.{ℕ, zero, suc, ◌+◌, ◌-◌, ◌*◌, ◌≤◌, ◌<◌}
-use mathlib.Core.Path.{◌≡◌, refl, sym, ap, ap₂, subst, ◌∙◌}
+use Prim.Native.Nat.{ℕ, ◌+◌, ◌-◌, ◌≤◌, ◌<◌}
+use mathlib.Core.Path.{◌≡◌, refl, sym, ap, subst, ◌∙◌}
 use mathlib.Core.Bool.{Bool, true, false, cond, not}
 use mathlib.Core.List.{List, [], ◌∷◌, ◌++◌}
 use native.Mathlib.Nat.{zero-add}
@@ -19,7 +19,7 @@ use Rattle.trace.specs.Steps.{machine_after_step}
 use Rattle.trace.specs.declared.Command.{Command}
 use Rattle.trace.proofs.TraceLaws.{commands-more}
 use Rattle.trace.proofs.Blocks.{split, joined}
-use Rattle.report.specs.Totals.{TOTALS, Booked, AllWithin}
+use Rattle.report.specs.Totals.{TOTALS, AllWithin}
 use Rattle.report.specs.Ready.{Ready}
 use Rattle.report.specs.Tallies.{Tally, booked_by, tally_step, continued, tally_of, InBlocks, CountGives}
 use Rattle.report.specs.declared.Counted.{Counted}
