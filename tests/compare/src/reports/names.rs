@@ -18,19 +18,18 @@ const LONGEST: usize = 4095;
 const LONGEST_IN_FOLDER: usize = 255;
 
 /// How each file is named.
-pub const NAMED: [&str; 8] = [
+pub const NAMED: [&str; 7] = [
     "from the root",
     "one letter",
     "255 bytes in its folder",
     "4,095 bytes",
     "like an option",
     "with a space and a newline",
-    "not UTF-8",
     "through a symbolic link",
 ];
 
 /// Why each name is unread.
-pub const UNREAD: [&str; 9] = [
+pub const UNREAD: [&str; 10] = [
     "no such file",
     "a directory",
     "an empty name",
@@ -40,6 +39,7 @@ pub const UNREAD: [&str; 9] = [
     "256 bytes in its folder",
     "a file as a folder",
     "a symbolic link to itself",
+    "a name that is not UTF-8",
 ];
 
 /// Each alone, then all of them in one call, files and others in turn.
@@ -57,14 +57,14 @@ pub fn put(comparison: &mut Comparison, random: &mut Random) -> Result<(), Strin
     for case in readable().into_iter().chain(unreadable()) {
         comparison.put(vec![case])?;
     }
-    let another = Case::of(script::trace(random, RECORDS, 0), CountBy::Walks);
-    let files = readable().into_iter().chain([another]);
+    let others = [(); 3].map(|()| Case::of(script::trace(random, RECORDS, 0), CountBy::Walks));
+    let files = readable().into_iter().chain(others);
     let in_turn = unreadable().into_iter().zip(files);
     comparison.put(in_turn.flat_map(|(other, file)| [other, file]).collect())
 }
 
 fn readable(from_the_root: OsString, trace: &[u8]) -> Vec<Case> {
-    let [long, option, odd, bytes] = other_files();
+    let [long, option, odd, _] = other_files();
     let names = [
         from_the_root,
         "f".into(),
@@ -72,7 +72,6 @@ fn readable(from_the_root: OsString, trace: &[u8]) -> Vec<Case> {
         filled_up("f", LONGEST),
         option,
         odd,
-        bytes,
         "link".into(),
     ];
     names
@@ -83,6 +82,7 @@ fn readable(from_the_root: OsString, trace: &[u8]) -> Vec<Case> {
 }
 
 fn unreadable() -> Vec<Case> {
+    let [.., not_text] = other_files();
     let names = [
         "none".into(),
         FOLDER.into(),
@@ -93,6 +93,7 @@ fn unreadable() -> Vec<Case> {
         "n".repeat(LONGEST_IN_FOLDER + 1).into(),
         "f/f".into(),
         "loop".into(),
+        not_text,
     ];
     names
         .into_iter()
