@@ -29,7 +29,7 @@ use Rattle.store.specs.Machine.{Machine}
 use Rattle.control.specs.Starting.{start_refusal, start_reply, started_buffer, StartGives}
 use Rattle.sequence.specs.Reader.{Reader, start_reader, settings_of}
 use Rattle.sequence.specs.Account.{Slots, start_slots}
-use Rattle.sequence.specs.Calls.{Event, refusal, accepted, effect_by, left_by, Promised}
+use Rattle.sequence.specs.Calls.{Event, accepted, effect_by, left_by, Promised}
 use Rattle.sequence.specs.Systems.{System, begun, system_after, Moment, IfAccepted, IfRefused}
 use Rattle.sequence.specs.Sentences.{AnsweredAsReader, Counted, Loaded}
 use Rattle.sequence.specs.Sentences.{RefusalHasNoEffect, SlotIs, InService}
