@@ -1,3 +1,4 @@
 pub mod ReplayLaws
 pub mod EndingLaws
 pub mod ReportLaws
+pub mod StreamLaws

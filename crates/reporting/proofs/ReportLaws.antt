@@ -62,6 +62,9 @@ not_opened number n f words input out after e t =
 pub goes_on_lem : (written : Bool) (next count : ℕ) → written && ltb next count ≡ true → next < count
 goes_on_lem written next count h = ltb-true next count (both written (ltb next count) h).1
 
+pub was-written : (written : Bool) (next count : ℕ) → written && ltb next count ≡ true → written ≡ true
+was-written written next count h = (both written (ltb next count) h).0
+
 pub none_left : (written : Bool) (next count : ℕ) → written && ltb next count ≡ false → written ≡ true → count ≤ next
 none_left true next count h e = ltb-false next count h
 none_left false next count h e = absurd (clash e refl)

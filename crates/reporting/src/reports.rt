@@ -1,6 +1,8 @@
 // The files that the arguments name, one after the other.
-ghost use Rattle.std.specs.Prelude.{◌-◌, ◌≤◌, length};
+ghost use Rattle.std.specs.Prelude.{◌≡◌, ◌-◌, ◌≤◌, true, length, take};
+ghost use Rattle.std.specs.Io.KnownBytes.{Appends};
 ghost use Rattle.reporting.specs.Reports.{FilePut, ReportFits, ReportGives};
+ghost use Rattle.reporting.specs.Streams.{ReportPuts};
 
 use crate::lines::{put_lines, unopened};
 use crate::{Filed, Reported};
@@ -39,7 +41,8 @@ fn write_lines<H: Env + Files, W: Write>(
     out: &mut [u8],
 ) -> Lines
     requires { (1 ≤ argument) × ReportFits words.old input.old out.old }
-    ensures { FilePut (argument - 1) result.file words.new input.new out.new }
+    ensures lines { FilePut (argument - 1) result.file words.new input.new out.new }
+    ensures put { result.written ≡ true → Appends (W.contents writer.old) (W.contents writer.new) (take result.file.length out.new) }
 {
     let n = put_argument(host, argument, path);
     let file = put_lines(host, &path[..n], argument as u64 - 1, words, input, out);
@@ -59,7 +62,8 @@ pub fn run<H: Env + Files, W: Write>(
     out: &mut [u8],
 ) -> Reported
     requires { ReportFits words.old input.old out.old }
-    ensures { ReportGives count result words.new input.new out.new }
+    ensures report { ReportGives count result words.new input.new out.new }
+    ensures puts { result.written ≡ true → ReportPuts (result.next - 1) (W.contents writer.old) (W.contents writer.new) }
 {
     let mut next: usize = 1;
     let mut file = unopened(0);

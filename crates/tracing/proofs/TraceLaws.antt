@@ -26,13 +26,14 @@ pub first_block : (m : Machine) (b : Block) (buffer : Buffer) (words input out :
 unfolding commands_of commands_from record_count machine_after
 first_block m b buffer words input out g = record { before = []; count = 0; full = refl; block = g }
 
--- where it goes on, the block is full and the number within the limit
-pub goes-on : (b : Block) → goes_on b ≡ true → (b.read ≡ BYTES) × (b.number ≤ LAST)
+-- where it goes on, the block is full, the number within the limit, and the lines could be written
+pub goes-on : (b : Block) → goes_on b ≡ true → (b.read ≡ BYTES) × (b.number ≤ LAST) × (b.written ≡ true)
 unfolding goes_on
 goes-on b h =
     let t = both (b.written && eqb b.read BYTES) (leb b.number LAST) h in (
       eqb-true b.read BYTES (both b.written (eqb b.read BYTES) t.0).1,
       leb-true b.number LAST t.1,
+      (both b.written (eqb b.read BYTES) t.0).0,
     )
 
 -- where it does not, the block is the last one for a reason
@@ -47,7 +48,7 @@ ends b l h = go b.written (eqb b.read BYTES) (leb b.number LAST) refl refl refl 
     go true true false p q r e = inr (inr (leb-false b.number LAST r))
 
 -- a full block's records
-full_block : (read : ℕ) (input : List ℕ) → read ≡ BYTES → length input ≡ BYTES
+pub full_block : (read : ℕ) (input : List ℕ) → read ≡ BYTES → length input ≡ BYTES
     → (length (take read input) ≡ BYTES) × (length (commands_of (take read input)) ≡ RECORDS)
 full_block read input e l =
     let q : length (take read input) ≡ BYTES = length-take-le read input (omega (arith, e, l)) ∙ e in

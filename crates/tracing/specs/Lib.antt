@@ -1,2 +1,3 @@
 pub mod Blocks
 pub mod Traces
+pub mod Streams

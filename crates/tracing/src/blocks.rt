@@ -1,5 +1,6 @@
 // A block of the input: 1,024 records, or what is left of them.
-ghost use Rattle.std.specs.Prelude.{◌≡◌, ◌≤◌, length};
+ghost use Rattle.std.specs.Prelude.{◌≡◌, ◌≤◌, true, length, take};
+ghost use Rattle.std.specs.Io.KnownBytes.{Appends, Consumes};
 ghost use Rattle.slots.specs.Buffer.{Buffer};
 ghost use Rattle.tracing.specs.Blocks.{BlockGives, LinesFit, LAST};
 
@@ -20,9 +21,11 @@ pub(crate) fn run_block<R: Read, W: Write>(
     out: &mut [u8],
 ) -> Block
     requires { LinesFit input.old out.old × (number ≤ LAST) }
-    ensures { BlockGives
+    ensures block { BlockGives
         (record { registers = r; buffer = Buffer.Wide buffer.old; words = words.old }) number result
         (Buffer.Wide buffer.new) words.new input.new out.new }
+    ensures taken { Consumes (R.remaining reader.old) (R.remaining reader.new) (take result.read input.new) }
+    ensures put { result.written ≡ true → Appends (W.contents writer.old) (W.contents writer.new) (take result.length out.new) }
 {
     let read = fill(reader, input);
     let ran = trace::run(r, buffer, words, number, &input[..read], out);

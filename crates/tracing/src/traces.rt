@@ -4,6 +4,7 @@ ghost use Rattle.slots.specs.Buffer.{Buffer};
 ghost use Rattle.trace.specs.Traces.{WORDS, start_machine};
 ghost use Rattle.tracing.specs.Blocks.{LinesFit};
 ghost use Rattle.tracing.specs.Traces.{TraceGives, goes_on};
+ghost use Rattle.tracing.specs.Streams.{TraceMoves};
 
 use crate::Block;
 use crate::blocks::run_block;
@@ -38,9 +39,13 @@ pub fn run_blocks<R: Read, W: Write>(
     out: &mut [u8],
 ) -> Block
     requires { LinesFit input.old out.old }
-    ensures { TraceGives
+    ensures trace { TraceGives
         (record { registers = r; buffer = Buffer.Wide buffer.old; words = words.old }) result
         (Buffer.Wide buffer.new) words.new input.new out.new }
+    ensures moves { TraceMoves
+        (record { registers = r; buffer = Buffer.Wide buffer.old; words = words.old }) result
+        (Buffer.Wide buffer.new) words.new input.new
+        (R.remaining reader.old) (R.remaining reader.new) (W.contents writer.old) (W.contents writer.new) }
 {
     let mut last = run_block(reader, writer, r, buffer, words, 0, input, out);
     while goes_on(last) {
@@ -69,8 +74,11 @@ pub fn run<R: Read, W: Write>(
     out: &mut [u8],
 ) -> Block
     requires { (length buffer.old ≡ 64) × (words.old ≡ replicate WORDS 0) × LinesFit input.old out.old }
-    ensures { TraceGives (start_machine (Buffer.Wide buffer.old)) result
+    ensures trace { TraceGives (start_machine (Buffer.Wide buffer.old)) result
         (Buffer.Wide buffer.new) words.new input.new out.new }
+    ensures moves { TraceMoves (start_machine (Buffer.Wide buffer.old)) result
+        (Buffer.Wide buffer.new) words.new input.new
+        (R.remaining reader.old) (R.remaining reader.new) (W.contents writer.old) (W.contents writer.new) }
 {
     let started = control::start(buffer);
     let registers = started.registers;
