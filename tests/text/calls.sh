@@ -188,6 +188,14 @@ report_with_many_texts() {
         [ "$(wc -l <"$errors")" -eq 11 ] && tail -n 2 "$errors" | diff - <(printf 'mmureport: none: %s\nmmureport: more such files: 2\n' "$lost_sentence")
 }
 
+# A name that is not ASCII is handed on by a link, which is gone afterwards; the others are handed on as they are.
+report_with_links() {
+    local odd=$'\377 \n.trace'
+    mkdir -p "$work/links" && built && cp "$work/whole.trace" "$folder/$odd" &&
+        (cd "$folder" && call 7 env TMPDIR="$work/links" "$repository/bin/mmureport" whole.trace "$odd" whole.trace </dev/null) && said '' &&
+        grep -q -E "^arguments: <whole.trace> <$work/links/[^/]*/2> <whole.trace>\$" "$out" && [ -z "$(ls "$work/links")" ]
+}
+
 # Where all is well, the number of processes does not grow with the number of names.
 report_with_many_names() {
     local tool
@@ -215,4 +223,5 @@ verdict "bin/mmureport says that no file is named" report_without_names
 verdict "bin/mmureport says which files are no traces" report_with_names
 verdict "bin/mmureport says which files look like texts" report_with_texts
 verdict "bin/mmureport counts what it does not name" report_with_many_texts
+verdict "bin/mmureport hands names that are not ASCII on by links" report_with_links
 verdict "bin/mmureport starts no process for each of many names" report_with_many_names
