@@ -1,5 +1,5 @@
 -- Pools of frames: taken, given, counted and mapped.
-use Rattle.std.specs.Prelude.{ℕ, ◌-◌, List, [], ◌∷◌, ◌++◌, length, get_or, set, replicate}
+use Rattle.std.specs.Prelude.{ℕ, ◌-◌, List, [], ◌∷◌, ◌++◌, length, get_or, replicate}
 use Rattle.entry.specs.Entry.{pack}
 use Rattle.entry.specs.Empty.{empty_entry}
 use Rattle.registers.specs.Replies.{done}

@@ -1,9 +1,9 @@
 -- The report: the limit of a total at its ends, what a call gives to the totals, and lines.
-use Rattle.std.specs.Prelude.{ℕ, true, false, List, [], ◌∷◌, pos, negsuc, length, replicate}
+use Rattle.std.specs.Prelude.{true, false, List, [], ◌∷◌, pos, negsuc, length, replicate}
 use Rattle.registers.specs.declared.Outcome.TheVariants.{At, Fault, Done, Refused}
 use Rattle.line.specs.Text.{ascii}
 use Rattle.rows.specs.Rows.{signed, row_of, report_of, refused_text, unread_text}
-use Rattle.report.specs.Totals.{Booked, SERVED, LOADS, EMPTIED, CHANGE, within, booked_all}
+use Rattle.report.specs.Totals.{SERVED, LOADS, EMPTIED, CHANGE, within, booked_all}
 use Rattle.report.specs.Gains.{gain, fault_gains, access_gains, store_gains}
 use Rattle.examples.specs.Claims.{Example, ◌gives◌}
 

@@ -8,7 +8,6 @@ use Rattle.trace.specs.Commands.{command_of, commands_of}
 use Rattle.line.specs.Text.{ascii}
 use Rattle.line.specs.Lines.{line_of}
 use Rattle.trace.specs.Traces.{trace_text}
-use Rattle.trace.specs.declared.Command.{Command}
 use Rattle.trace.specs.declared.Command.TheVariants.{Serve, Store, Set, Malformed}
 use Rattle.examples.specs.Claims.{Example, ◌gives◌}
 use Rattle.examples.specs.Scene.{user, supervisor}
