@@ -11,7 +11,7 @@ ghost use Rattle.mmu.specs.RawAccess.{RawAccessGives, raw_refusal};
 ghost use Rattle.mmu.specs.ServedAccess.{AccessGives, RetryGives, ServedAccessGives, may_be_served, served_refusal, service_refusal};
 ghost use Rattle.mmu.specs.ServedAccess.{tried_reply};
 
-use access::{MISS, Physical, Translation};
+use access::{MISS, Translation};
 use page_table::{Found, Walk};
 use registers::{Access, Outcome, Refusal, Registers, Reply};
 
@@ -111,8 +111,8 @@ pub fn tried_reply(t: Translation, loads: u32) -> Reply
     let physical = t.physical;
     let after = t.registers;
     match physical {
-        Physical::Address(address) => registers::answered(after, Outcome::At(address), loads),
-        Physical::None => registers::answered(after, Outcome::Fault(t.value), loads),
+        Some(address) => registers::answered(after, Outcome::At(address), loads),
+        None => registers::answered(after, Outcome::Fault(t.value), loads),
     }
 }
 
