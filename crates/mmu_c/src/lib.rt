@@ -109,7 +109,7 @@ fn registers_of(bytes: &[u8]) -> Registers
     ensures bytes { AreBytes bytes.now }
 {
     let mut words = [0u32; 11];
-    wire::decode32(bytes, &mut words);
+    wire::decode(bytes, &mut words);
     registers::from_words(words)
 }
 
@@ -118,7 +118,7 @@ fn put_registers(bytes: &mut [u8], r: Registers)
     ensures { bytes.new ≡ register_bytes r }
 {
     let words = registers::to_words(r);
-    wire::encode32(&words, bytes);
+    wire::encode(&words, bytes);
 }
 
 // 44 bytes, and no field exceeds its bits.
@@ -154,7 +154,7 @@ fn fetch(buffer: &[u8], slots: &mut [u64], vpn: u32)
     let mut set: u32 = 0;
     while set < 4 {
         let slot = entry::slot_of(set, vpn) as usize;
-        slots[slot] = wire::number_at(buffer, slot);
+        slots[slot] = wire::read(buffer, slot);
         set += 1;
     }
 }
