@@ -1,6 +1,5 @@
 use Prim.Native.Nat.{ℕ}
 use mathlib.Core.Path.{refl, sym, ap, ◌∙◌}
-use native.Mathlib.Omega.{arith}
 use Rattle.registers.proofs.RefusalLaws.{when-accepted, when-refused, refused-ne0}
 use Rattle.mmu.specs.RawAccess.{raw_reply}
 use Rattle.mmu.specs.declared.RawReply.TheVariants.{Answered, Refused}
