@@ -192,18 +192,19 @@ module _ (words links presents : List ℕ) (fits : tables_fit words ≡ true) (i
       c.same ∙ ap (count (is_leaf_word words)) e
 
   -- a turn of the code's loop, which takes the links and the count of one table
-  module _ (leaves t present : ℕ) (c : Counted words leaves t) (inside : t < length links) (here : present ≡ get_or presents t 0) where
-    pub turn_fits : leaves + present < 4294967296
-    turn_fits =
-        let l : t < table_count words = omega (arith, index-long.0) in
-        let small = counted-le leaves t c in
-        let few = presents-le t l in
-        omega arith
+  pub turn_fits : (leaves t present : ℕ) → Counted words leaves t → t < length presents → present ≡ get_or presents t 0
+      → leaves + present < 4294967296
+  turn_fits leaves t present c inside here =
+      let l : t < table_count words = omega (arith, index-long.1) in
+      let small = counted-le leaves t c in
+      let few = presents-le t l in
+      omega arith
 
-    pub turn_more : (link : ℕ) → link ≡ get_or links t 0 → (link ≡ 0 → ⊥) → Counted words (leaves + present) (t + 1)
-    turn_more link e ne =
-        let l : t < table_count words = omega (arith, index-long.0) in
-        rw here (counted-more leaves t c l (λ z. ne (e ∙ z)))
+  pub turn_more : (leaves t present : ℕ) → Counted words leaves t → t < length links → present ≡ get_or presents t 0
+      → (link : ℕ) → link ≡ get_or links t 0 → (link ≡ 0 → ⊥) → Counted words (leaves + present) (t + 1)
+  turn_more leaves t present c inside here link e ne =
+      let l : t < table_count words = omega (arith, index-long.0) in
+      rw here (counted-more leaves t c l (λ z. ne (e ∙ z)))
 
   pub turn-skip : (leaves t : ℕ) → Counted words leaves t → t < length links → (link : ℕ) → link ≡ get_or links t 0 → link ≡ 0
       → Counted words leaves (t + 1)

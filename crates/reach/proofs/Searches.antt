@@ -16,6 +16,16 @@ use Rattle.runs.proofs.Bools.{same_test}
 use Rattle.page_table.specs.Stretches.{stretch}
 use Rattle.runs.proofs.Counts.{any_at, any-from, any_same}
 
+-- the words of a directory, by their places there
+module _ (words : List ℕ) (d : ℕ) where
+  pub directory-long : 512 * d + 512 ≤ length words → length (stretch words 512 d) ≡ 512
+  unfolding stretch
+  directory-long l = simp (length-take, length-drop) (omega arith)
+
+  pub directory-at : (k : ℕ) → k < 512 → get_or (stretch words 512 d) k 0 ≡ get_or words (512 * d + k) 0
+  unfolding stretch
+  directory-at k h = get_or-take 512 (drop (512 * d) words) k 0 h ∙ get_or-drop (512 * d) words k 0
+
 module _ (p : ℕ → Bool) where
   -- over a run, by its indexes
   any-run : (xs : List ℕ) → list_any p xs ≡ any (λ j. p (get_or xs j 0)) (length xs)
@@ -30,16 +40,6 @@ module _ (p : ℕ → Bool) where
       back : any (λ j. p (get_or xs j 0)) (length xs) ≡ true → list_any p xs ≡ true
       back h = let s = any_at (λ j. p (get_or xs j 0)) (length xs) h in list_any_at p xs s.0 0 s.1 s.2
 
-  -- over n words of a run, from index k on
-  pub any_words : (words : List ℕ) (k n : ℕ) → k + n ≤ length words
-      → list_any p (take n (drop k words)) ≡ any (λ j. p (get_or words (k + j) 0)) n
-  any_words words k n l =
-      let long : length (take n (drop k words)) ≡ n = simp (length-take, length-drop) (omega arith) in
-      any-run (take n (drop k words))
-      ∙ ap (any (λ j. p (get_or (take n (drop k words)) j 0))) long
-      ∙ any_same (λ j. p (get_or (take n (drop k words)) j 0)) (λ j. p (get_or words (k + j) 0)) n
-      (λ j h. ap p (get_or-take n (drop k words) j 0 h ∙ get_or-drop k words j 0))
-
   -- over the numbers below n
   pub any_numbers : (n : ℕ) → list_any p (range_with_len 0 n) ≡ any p n
   any_numbers n =
@@ -48,12 +48,20 @@ module _ (p : ℕ → Bool) where
       ∙ ap (any (λ j. p (get_or (range_with_len 0 n) j 0))) long
       ∙ any_same (λ j. p (get_or (range_with_len 0 n) j 0)) p n (λ j h. ap p (get_or-range_with_len 0 n j 0 h ∙ zero-add j))
 
--- the words of a directory, by their places there
-module _ (words : List ℕ) (d : ℕ) where
-  pub directory-long : 512 * d + 512 ≤ length words → length (stretch words 512 d) ≡ 512
-  unfolding stretch
-  directory-long l = simp (length-take, length-drop) (omega arith)
+  -- over the first n words of a directory, and over all of them
+  pub any_first : (words : List ℕ) (d n : ℕ) → 512 * d + 512 ≤ length words → n ≤ 512
+      → list_any p (take n (stretch words 512 d)) ≡ any (λ j. p (get_or words (512 * d + j) 0)) n
+  any_first words d n l few =
+      let all : length (stretch words 512 d) ≡ 512 = directory-long words d l in
+      let long : length (take n (stretch words 512 d)) ≡ n = simp length-take (omega arith) in
+      any-run (take n (stretch words 512 d))
+      ∙ ap (any (λ j. p (get_or (take n (stretch words 512 d)) j 0))) long
+      ∙ any_same (λ j. p (get_or (take n (stretch words 512 d)) j 0)) (λ j. p (get_or words (512 * d + j) 0)) n
+      (λ j h. ap p (get_or-take n (stretch words 512 d) j 0 h ∙ directory-at words d j (omega arith)))
 
-  pub directory-at : (k : ℕ) → k < 512 → get_or (stretch words 512 d) k 0 ≡ get_or words (512 * d + k) 0
-  unfolding stretch
-  directory-at k h = get_or-take 512 (drop (512 * d) words) k 0 h ∙ get_or-drop (512 * d) words k 0
+  pub any_directory : (words : List ℕ) (d : ℕ) → 512 * d + 512 ≤ length words
+      → list_any p (stretch words 512 d) ≡ any (λ j. p (get_or words (512 * d + j) 0)) 512
+  any_directory words d l =
+      any-run (stretch words 512 d)
+      ∙ ap (any (λ j. p (get_or (stretch words 512 d) j 0))) (directory-long words d l)
+      ∙ any_same (λ j. p (get_or (stretch words 512 d) j 0)) (λ j. p (get_or words (512 * d + j) 0)) 512 (λ j h. ap p (directory-at words d j h))

@@ -1,4 +1,4 @@
-use Rattle.std.proofs.Common.{arith}
+use Rattle.std.proofs.Common.{refl, arith}
 use Rattle.std.proofs.lemmas.List.{length-append}
 use Rattle.std.proofs.lemmas.Slice.Zip.{zip_turn, zip_end}
 use Rattle.reach.proofs.PresentLaws.{counted_none, turn_more, turn-skip, turn_fits, turn-end}
@@ -9,8 +9,8 @@ loop-link-init c = counted_none _
 
 pub overflow_add-leaves : goal.overflow_add-leaves
 overflow_add-leaves c =
-    let at = zip_turn c.args.links.now c.args.presents.now _ _ _ c.next.new.self _ (cc) (cc) c.loop-link.yielded_by _ c.in-Some.is c.next.ensures.steps in
-    omega (arith, turn_fits _ _ _ c.requires.0 c.requires.1 _ _ _ c.loop-link.invariant at.0 (at.3 0))
+    let at = zip_turn _ c.args.presents.now _ _ _ c.next.new.self _ refl (cc) c.loop-link.yielded_by _ c.in-Some.is c.next.ensures.steps in
+    omega (arith, turn_fits _ _ _ c.requires.0 c.requires.1 _ _ _ c.loop-link.invariant at.1 (at.3 0))
 
 pub loop-link-preserved-then-link-ne0 : goal.loop-link-preserved-then-link-ne0
 loop-link-preserved-then-link-ne0 c =
