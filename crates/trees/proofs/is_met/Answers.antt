@@ -8,6 +8,6 @@ use Rattle.trees.proofs.is_met.Goals as goal
 pub returns : goal.returns
 unfolding met
 returns c =
-    any_from_yields_List (meets_root c.args.words.now c.args.id c.args.directory) _ _ _ c.any.ensures.ran (YieldsList-from_range 0 64 64 refl refl)
+    any_from_yields_List (meets_root c.args.words.now c.args.id c.args.directory) _ _ _ c.any.ensures.ran (YieldsList-from_range 0 _ _ refl refl)
     (λ x b q k. search (rules, tests))
-    ∙ any_numbers (meets_root c.args.words.now c.args.id c.args.directory) 64
+    ∙ any_numbers (meets_root c.args.words.now c.args.id c.args.directory) _

@@ -14,7 +14,7 @@ any-requires-clause-callable c =
 pub returns : goal.returns
 unfolding beside_at
 returns c =
-    any_from_yields_List (beside_at c.args.words.now c.args.root c.args.directory) _ _ _ c.any.ensures.ran (YieldsList-from_range 0 64 64 refl refl)
+    any_from_yields_List (beside_at c.args.words.now c.args.root c.args.directory) _ _ _ c.any.ensures.ran (YieldsList-from_range 0 _ _ refl refl)
     (λ x b q k. search (rules, tests))
-    ∙ any_numbers (beside_at c.args.words.now c.args.root c.args.directory) 64
+    ∙ any_numbers (beside_at c.args.words.now c.args.root c.args.directory) _
     ∙ beside-any _ _ _
