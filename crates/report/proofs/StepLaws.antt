@@ -1,14 +1,18 @@
 -- A record's step leads where its tally leads. Assumes nothing.
-use Prim.Native.Nat.{ℕ, ◌≤◌, ◌<◌}
+use Prim.Native.Nat.{ℕ, ◌<◌}
 use mathlib.Core.Path.{◌≡◌, refl, sym, ap, ap₂, subst, ◌∙◌}
 use mathlib.Core.Bool.{Bool, true, false, cond}
 use mathlib.Core.List.{List, [], ◌∷◌}
 use native.Mathlib.Omega.{arith}
-use lib.ListN.{length, get_or, set, length-set, get_or-eq_default}
+use lib.ListN.{length, get_or, set, length-set}
 use lib.Seq.{ext_get_or, get_or-set_same, get_or-set_other}
 use lib.Dec.{eqb}
 use lib.IntN.{ℤ, pos, ◌-ℤ◌}
 use borrow.Author.Tests.{eqb-true, eqb-false}
+use Rattle.std.specs.Borrow.{Bor}
+use Rattle.std.specs.Option.{option_copied, unwrap_or}
+use Rattle.std.specs.declared.option.Option.{Option}
+use Rattle.std.specs.Slice.{IsItemAt}
 use Rattle.registers.specs.Refusals.{by_refusal}
 use Rattle.registers.specs.Replies.{refused, done}
 use Rattle.registers.specs.declared.Access.{Access}
@@ -219,5 +223,7 @@ pub plain-gives : (m : Machine) (c : Command) (reply : Reply) (buffer : Buffer) 
     → PlainCountGives m c (record { registers = reply.registers; fits = true }) buffer words
 plain-gives m c reply buffer words s = record { machine-is = step-machine m c reply buffer words s; fits-is = refl }
 
-pub past_end : (words : List ℕ) (i : ℕ) → length words ≤ i → 0 ≡ get_or words i 0
-past_end words i h = sym (get_or-eq_default words 0 h)
+-- the word at an index, or 0 behind the run
+pub word_found : (words : List ℕ) (i old : ℕ) (got : Option (Bor ℕ)) (copied : Option ℕ) → IsItemAt words i got
+    → copied ≡ option_copied got → old ≡ unwrap_or copied 0 → old ≡ get_or words i 0
+word_found words i old got copied g e f = f ∙ ap (λ (o : Option ℕ). unwrap_or o 0) e ∙ g.4 (omega arith) 0

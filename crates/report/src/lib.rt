@@ -11,6 +11,10 @@ use registers::Registers;
 pub use starting::start;
 pub use traces::run;
 
+// A total passed the limit.
+#[derive(Clone, Copy, PartialEq, Eq, Debug)]
+pub struct PastLimit;
+
 // After some records: the registers, and whether every total is within the limit.
 #[derive(Clone, Copy)]
 pub struct Counted {

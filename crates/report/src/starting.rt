@@ -7,30 +7,6 @@ ghost use Rattle.report.specs.Totals.{TOTALS};
 
 use registers::Registers;
 
-// Every number of a run becomes 0.
-fn clear(run: &mut [u32])
-    ensures { run.new ≡ replicate (length run.old) 0 }
-{
-    let n = run.len();
-    let mut i: usize = 0;
-    while i < n {
-        run[i] = 0;
-        i += 1;
-    }
-}
-
-// Every total becomes 0.
-fn clear_totals(totals: &mut [i64])
-    ensures { totals.new ≡ replicate (length totals.old) (pos 0) }
-{
-    let n = totals.len();
-    let mut i: usize = 0;
-    while i < n {
-        totals[i] = 0;
-        i += 1;
-    }
-}
-
 // The start state, zero tables with their index, and totals that are all 0.
 pub fn start(
     buffer: &mut [u64],
@@ -45,9 +21,9 @@ pub fn start(
         words.new links.new presents.new totals.new }
 {
     let reply = control::start(buffer);
-    clear(words);
-    clear(links);
-    clear(presents);
-    clear_totals(totals);
+    words.fill(0);
+    links.fill(0);
+    presents.fill(0);
+    totals.fill(0);
     reply.registers
 }

@@ -11,16 +11,6 @@ use crate::gains::{book_access, book_store};
 use registers::{Access, Outcome, Registers};
 use trace::Command;
 
-// The word at an index, or 0 where the run has none.
-fn word_or_zero(words: &[u32], index: u32) -> u32
-    ensures { result ≡ get_or words.now index 0 }
-{
-    if words.len() <= index as usize {
-        return 0;
-    }
-    words[index as usize]
-}
-
 // An access: the call, and what it gives.
 fn count_access(
     r: Registers,
@@ -38,7 +28,7 @@ fn count_access(
     let context = r.context;
     let reply = trace::step(r, buffer, words, Command::Serve(access));
     let outcome = reply.outcome;
-    let fits = book_access(totals, context, outcome, reply.loads);
+    let fits = book_access(totals, context, outcome, reply.loads).is_ok();
     let registers = reply.registers;
     Counted { registers, fits }
 }
@@ -62,7 +52,7 @@ fn count_store(
 {
     let context = r.context;
     let before = reach::leaf_count(words, links, presents);
-    let old = word_or_zero(words, index);
+    let old = words.get(index as usize).copied().unwrap_or(0);
     let reply = trace::step(r, buffer, words, Command::Store(index, value));
     let outcome = reply.outcome;
     let registers = reply.registers;
@@ -74,7 +64,7 @@ fn count_store(
     };
     reach::stored(words, links, presents, index, old);
     let after = reach::leaf_count(words, links, presents);
-    let fits = book_store(totals, context, emptied, before, after);
+    let fits = book_store(totals, context, emptied, before, after).is_ok();
     Counted { registers, fits }
 }
 

@@ -27,8 +27,7 @@ pub fn run(
 {
     let count = (input.len() + 7) / 8;
     let mut registers = r;
-    let mut i: usize = 0;
-    while i < count {
+    for i in 0..count {
         let command = trace::command_at(input, i);
         let counted = count_step(registers, buffer, words, links, presents, totals, command);
         registers = counted.registers;
@@ -38,7 +37,6 @@ pub fn run(
                 fits: false,
             };
         }
-        i += 1;
     }
     Counted {
         registers,

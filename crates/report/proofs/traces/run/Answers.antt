@@ -38,13 +38,6 @@ unfolding record_count
 returns-then-not-counted c = replayed-stop _ _ _ _ _ _ _ _ _ c.loop-i.invariant.0 c.loop-i-test.true _
     c.command_at-command.ensures _ _ _ _ _ _ c.count_step-counted.ensures c.if-not-counted.true refl
 
-pub overflow_add-i : goal.overflow_add-i
-overflow_add-i c = omega (
-  arith,
-  c.loop-i-test.true,
-  c,
-)
-
 pub loop-i-preserved : goal.loop-i-preserved
 loop-i-preserved c = (
   replayed-more _ _ _ _ _ _ _ _ _ c.loop-i.invariant.0 c.loop-i-test.true _ c.command_at-command.ensures _ _ _ _ _ _ c.count_step-counted.ensures c.if-not-counted.false c.totals-1.given c.words-1.given,

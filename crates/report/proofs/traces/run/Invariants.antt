@@ -1,4 +1,3 @@
-use Prim.Native.Nat.{◌-◌}
 use mathlib.Core.Path.{◌≡◌}
 use lib.ListN.{length}
 use Rattle.slots.specs.Buffer.Buffer.{Wide}
@@ -9,6 +8,3 @@ abbrev pub invariant-loop-i : goal.invariant-loop-i
 invariant-loop-i l = Replayed (record { registers = l.initial.registers; buffer = Wide l.initial.buffer; words = l.initial.words }) l.initial.totals l.input l.count
     (record { registers = l.registers; buffer = Wide l.buffer; words = l.words }) l.links l.presents l.totals l.i
     × (length l.buffer ≡ length l.initial.buffer) × (length l.links ≡ length l.initial.links) × (length l.presents ≡ length l.initial.presents)
-
-abbrev pub decreases-loop-i : goal.decreases-loop-i
-decreases-loop-i l = l.count - l.i
