@@ -26,6 +26,13 @@ module _ (words : List ℕ) (d : ℕ) where
   unfolding stretch
   directory-at k h = get_or-take 512 (drop (512 * d) words) k 0 h ∙ get_or-drop (512 * d) words k 0
 
+-- a word that a loop is at stands in the directory at its place
+pub directory-place : (words items : List ℕ) (d k : ℕ) → 512 * d + 512 ≤ length words → items ≡ stretch words 512 d → k < length items
+    → (k < 512) × (get_or items k 0 ≡ get_or words (512 * d + k) 0)
+directory-place words items d k long e l =
+    let h : k < 512 = omega (arith, ap length e, directory-long words d long) in
+    (h, rw e (directory-at words d k h))
+
 module _ (p : ℕ → Bool) where
   -- over a run, by its indexes
   any-run : (xs : List ℕ) → list_any p xs ≡ any (λ j. p (get_or xs j 0)) (length xs)

@@ -1,27 +1,20 @@
 use Rattle.std.proofs.Common.{ℕ, List, ◌≤◌, ◌≡◌, ◌+◌, ◌*◌, ◌<◌, length, get_or, ap, arith}
 use Rattle.page_table.specs.Stretches.{stretch}
-use Rattle.reach.proofs.Searches.{directory-long, directory-at}
+use Rattle.reach.proofs.Searches.{directory-long, directory-place}
 use Rattle.reach.proofs.LinkLaws.{shifted_none, shifted_fits, shifted-more, shifted-all}
 use Rattle.reach.proofs.links.shift_directory.Goals as goal
-
--- a word that the loop is at stands in the directory at its place
-at : (words items : List ℕ) (d k : ℕ) → 512 * d + 512 ≤ length words → items ≡ stretch words 512 d → k < length items
-    → (k < 512) × (get_or items k 0 ≡ get_or words (512 * d + k) 0)
-at words items d k long e l =
-    let h : k < 512 = omega (arith, ap length e, directory-long words d long) in
-    (h, rw e (directory-at words d k h))
 
 pub loop-word-init : goal.loop-word-init
 loop-word-init c = shifted_none _ _ _ _
 
 pub shift-requires : goal.shift-requires
 shift-requires c =
-    let h = at _ _ _ _ c.requires.0 c.directory-word-items.ensures c.loop-word-test.true in
+    let h = directory-place _ _ _ _ c.requires.0 c.directory-word-items.ensures c.loop-word-test.true in
     shifted_fits _ _ _ _ _ _ _ c.loop-word.invariant c.requires.1 h.0 h.1
 
 pub loop-word-preserved : goal.loop-word-preserved
 loop-word-preserved c =
-    let h = at _ _ _ _ c.requires.0 c.directory-word-items.ensures c.loop-word-test.true in
+    let h = directory-place _ _ _ _ c.requires.0 c.directory-word-items.ensures c.loop-word-test.true in
     shifted-more _ _ _ _ _ _ _ _ c.loop-word.invariant h.0 h.1 c.shift.ensures
 
 pub returns : goal.returns
