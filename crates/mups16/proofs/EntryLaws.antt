@@ -25,7 +25,6 @@ unfolding entries_fit
 length-wrong entries d = ne_eqb (length entries) 8192 d
 
 pub place-lt : (address : ℕ) → place_of address < 8192
-unfolding place_of
 place-lt address = omega arith
 
 -- a place that the code has
@@ -33,7 +32,6 @@ pub place_in : (address place : ℕ) → place ≡ place_of address → place < 
 place_in address place q = omega (arith, q, place-lt address)
 
 pub index-lt : (s : State) → index_of s < 32
-unfolding index_of
 index-lt s = omega arith
 
 -- an index that the code has
@@ -42,19 +40,15 @@ index_in s index q = omega (arith, q, index-lt s)
 
 -- a physical page and an offset that the code has
 pub page-in : (e page : ℕ) → page ≡ page_of e → page < 2 ^ 16
-unfolding page_of
 page-in e page q = omega (arith, q)
 
 pub offset-in : (address low : ℕ) → low ≡ offset address → low < 256
-unfolding offset
 offset-in address low q = omega (arith, q)
 
 pub page-lt : (address : ℕ) → virtual_page address < 256
-unfolding virtual_page
 page-lt address = omega arith
 
 pub map-place-lt : (s : State) (address : ℕ) → map_place s address < 8192
-unfolding map_place
 map-place-lt s address = omega (arith, index-lt s, page-lt address)
 
 pub map-place-in : (s : State) (address place : ℕ) → place ≡ map_place s address → place < 8192
