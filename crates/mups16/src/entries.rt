@@ -1,5 +1,5 @@
 // The entries that the caller lends, their bits, and the table index by which one is found.
-ghost use Rattle.std.specs.Prelude.{◌≡◌, ◌<◌, ◌^◌};
+ghost use Rattle.std.specs.Prelude.{◌≡◌, ◌<◌};
 ghost use Rattle.runs.specs.Bits.{flag};
 ghost use Rattle.mups16.specs.Entries.{entry_at, page_of, place_of};
 ghost use Rattle.mups16.specs.States.{index_of};

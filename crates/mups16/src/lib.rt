@@ -13,7 +13,7 @@ pub use refusal::Refusal;
 pub use sets::{set_entry, set_table_index};
 
 // What the unit keeps from call to call. Of the table index the low 5 bits count. Boot mode is a line of the machine: the caller sets it.
-#[derive(Clone, Copy)]
+#[derive(Clone, Copy, Default)]
 pub struct State {
     pub table_index: u32,
     pub boot_mode: bool,

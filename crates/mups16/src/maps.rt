@@ -1,6 +1,6 @@
 // Operation 0: a virtual address of 16 bits becomes a physical one of 24 bits.
-ghost use Rattle.std.specs.Prelude.{true, MatchResult, length, ◌≡◌, ◌≢◌};
-ghost use Rattle.mups16.specs.Answers.{wrong_length};
+ghost use Rattle.std.specs.Prelude.{◌+◌, ◌*◌, ◌≡◌};
+ghost use Rattle.runs.specs.Bits.{bit};
 ghost use Rattle.mups16.specs.Faults.{has_fault};
 ghost use Rattle.mups16.specs.Map.{MapGives, boot_mapping, entry_mapping, map_place, mapping_of, offset, state_after, virtual_page};
 
@@ -81,6 +81,15 @@ impl Mapping {
         ensures { result ≡ has_fault self }
     {
         self.no_mapping | self.write_violation | self.protection_violation
+    }
+
+    // The faults as programs tell them, in one number: no mapping counts 1, a write violation 2 and a protection violation 4.
+    pub fn faults(self) -> u32
+        ensures { result ≡ bit self.no_mapping + 2 * bit self.write_violation + 4 * bit self.protection_violation }
+    {
+        u32::from(self.no_mapping)
+            + 2 * u32::from(self.write_violation)
+            + 4 * u32::from(self.protection_violation)
     }
 }
 
