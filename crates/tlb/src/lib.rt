@@ -43,7 +43,8 @@ pub fn load(buffer: &mut [u64], context: u32, vpn: u32, draw: u32, e: u64) -> u3
     ensures { LoadGives (Buffer.Wide buffer.old) (Buffer.Wide buffer.new) context vpn draw e result }
 {
     let found = search(buffer, true, context, vpn);
-    let slot = entry::slot_of(found.lowest.unwrap_or(draw), vpn);
+    let home = found.lowest.unwrap_or(draw);
+    let slot = entry::slot_of(home, vpn);
     slots::put_slot(buffer, slot, e);
     slot
 }

@@ -2,6 +2,7 @@ use Rattle.std.proofs.Common.{◌≡◌, None, arith}
 use Rattle.entry.proofs.Fields.{slot_lt, unpack-fits}
 use Rattle.tlb.proofs.HitLaws.{searched-lt}
 use Rattle.access.proofs.AccessLaws.{context-lt, draw-lt, mapped-miss, mapped-hit, mapped-many}
+use Rattle.access.proofs.Keeping.{selected-lt}
 use Rattle.access.proofs.page_mapped.Goals as goal
 
 pub slot_of-drawn-requires : goal.slot_of-drawn-requires
@@ -15,11 +16,10 @@ slot_of-slot-requires c =
     searched-lt (rw c.in-Some.is at c.search-count.ensures.found c.args.a.draw) (draw-lt _ c.requires.draw-fits)
 
 pub slot_at-e-requires : goal.slot_at-e-requires
-slot_at-e-requires c = (
-  c.requires.buffer-fits,
-  rw c.slot_of-slot.ensures (slot_lt _ _
-      (searched-lt (rw c.in-Some.is at c.search-count.ensures.found c.args.a.draw) (draw-lt _ c.requires.draw-fits))),
-)
+slot_at-e-requires c =
+    let found = searched-lt (rw c.in-Some.is at c.search-count.ensures.found c.args.a.draw) (draw-lt _ c.requires.draw-fits) in
+    let inside = slot_lt c.in-Some.set c.vpn_of-vpn.result found in
+    (c.requires.buffer-fits, omega (arith, c.slot_of-slot.ensures, inside, selected-lt _ c.requires.registers-fit))
 
 pub on_hit-requires : goal.on_hit-requires
 on_hit-requires c = (context-lt _ c.requires.registers-fit, rw c.unpack-f.ensures (unpack-fits _).pfn-fits)

@@ -10,7 +10,7 @@ pub loop-set-init : goal.loop-set-init
 loop-set-init c = found_none _
 
 pub slot_at-e-requires : goal.slot_at-e-requires
-slot_at-e-requires c = (c.requires, rw c.slot_of-slot.ensures (slot_lt _ _ c.loop-set-test.true))
+slot_at-e-requires c = (c.requires, rw c.slot_of-slot.ensures (slot_lt _ _ (omega arith)))
 
 pub overflow_add-count : goal.overflow_add-count
 overflow_add-count c = omega (arith, c.loop-set.invariant.at_most)
