@@ -1,4 +1,5 @@
-use Rattle.std.proofs.Common.{arith}
+use Rattle.std.proofs.Common.{ℕ, ◌∙◌, ap, arith}
+use Rattle.entry.specs.Address.{slot_of}
 use Rattle.entry.proofs.Fields.{slot_lt}
 use Rattle.tlb.proofs.HitLaws.{searched-lt}
 use Rattle.tlb.proofs.Loads.{load_gives}
@@ -16,4 +17,4 @@ put_slot-requires c = (
 
 pub returns : goal.returns
 returns c = load_gives _ _ _ _ _ _ _ _ _ (c.search-found.ensures.found c.args.draw)
-    (rw c.unwrap_or-home.ensures at c.slot_of-slot.ensures) c.put_slot.ensures
+    (c.slot_of-slot.ensures ∙ ap (λ (k : ℕ). slot_of k c.args.vpn) c.unwrap_or-home.ensures) c.put_slot.ensures
