@@ -12,6 +12,7 @@ ghost use Rattle.access.specs.Translation.{with_cause};
 
 use entry::Entry;
 use registers::{Access, Registers};
+use tlb::Hits;
 
 // The exception value of a miss.
 pub const MISS: u32 = 8;
@@ -138,7 +139,13 @@ fn exception_address(r: Registers, a: Access, tested: Option<u32>) -> Option<u32
     tested
 }
 
-fn exception_answer(r: Registers, a: Access, slot: u32, value: u32, tested: Option<u32>) -> Translation
+fn exception_answer(
+    r: Registers,
+    a: Access,
+    slot: u32,
+    value: u32,
+    tested: Option<u32>,
+) -> Translation
     requires { (r.context < 64) × (value < 16) }
     ensures { result ≡ exception_answer r a slot value tested }
 {
@@ -175,19 +182,20 @@ fn page_mapped(r: Registers, buffer: &[u64], a: Access) -> Translation
     ensures { result ≡ page_mapped r (Buffer.Wide buffer.now) a }
 {
     let vpn = entry::vpn_of(a.address);
-    let found = tlb::search(buffer, inv_exc(r.ctrl), r.context, vpn, a.draw);
-    let hits = found.count;
-    if hits == 0 {
-        let drawn = entry::slot_of(a.draw, vpn);
-        return exception_answer(r, a, drawn, MISS, None);
+    let Hits { count, lowest } = tlb::search(buffer, inv_exc(r.ctrl), r.context, vpn);
+    match lowest {
+        None => {
+            let drawn = entry::slot_of(a.draw, vpn);
+            exception_answer(r, a, drawn, MISS, None)
+        }
+        Some(set) if count == 1 => {
+            let slot = entry::slot_of(set, vpn);
+            let e = slots::slot_at(buffer, slot);
+            let f = entry::unpack(e);
+            on_hit(r, a, slot, f)
+        }
+        Some(_) => exception_answer(r, a, r.select, 0, None),
     }
-    if hits == 1 {
-        let slot = entry::slot_of(found.set, vpn);
-        let e = slots::slot_at(buffer, slot);
-        let f = entry::unpack(e);
-        return on_hit(r, a, slot, f);
-    }
-    exception_answer(r, a, r.select, 0, None)
 }
 
 // The raw access in document 01's three steps.
