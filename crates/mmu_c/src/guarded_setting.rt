@@ -19,6 +19,6 @@ pub fn mmu_guarded_setting(registers: &mut [u8], number: u32, value: u32) -> u64
     if !accepted {
         return answer;
     }
-    wire::put_word(registers, number as usize, value);
+    wire::write(registers, number as usize, value);
     answer
 }

@@ -17,7 +17,7 @@ ghost use Rattle.mmu_c.specs.Location.{Fetched};
 ghost use Rattle.mmu_c.specs.Runs.{BUFFER_BYTES, REGISTER_BYTES};
 ghost use Rattle.mmu_c.specs.Runs.{buffer_of, buffer_taken, register_bytes, registers_of, registers_taken, tables_taken};
 
-use access::{Physical, Translation};
+use access::Translation;
 use registers::{Access, Outcome, Registers, Reply};
 
 // The weights of the answer's fields.
@@ -77,7 +77,7 @@ fn translation_answer(t: Translation) -> u64
 {
     let physical = t.physical;
     match physical {
-        Physical::Address(address) => access_answer(
+        Some(address) => access_answer(
             address,
             t.value,
             0,
@@ -85,7 +85,7 @@ fn translation_answer(t: Translation) -> u64
             t.interrupt,
             t.exception,
         ),
-        Physical::None => access_answer(0, t.value, 0, false, t.interrupt, t.exception),
+        None => access_answer(0, t.value, 0, false, t.interrupt, t.exception),
     }
 }
 
@@ -109,7 +109,7 @@ fn registers_of(bytes: &[u8]) -> Registers
     ensures bytes { AreBytes bytes.now }
 {
     let mut words = [0u32; 11];
-    wire::decode32(bytes, &mut words);
+    wire::decode(bytes, &mut words);
     registers::from_words(words)
 }
 
@@ -118,7 +118,7 @@ fn put_registers(bytes: &mut [u8], r: Registers)
     ensures { bytes.new ≡ register_bytes r }
 {
     let words = registers::to_words(r);
-    wire::encode32(&words, bytes);
+    wire::encode(&words, bytes);
 }
 
 // 44 bytes, and no field exceeds its bits.
@@ -154,7 +154,7 @@ fn fetch(buffer: &[u8], slots: &mut [u64], vpn: u32)
     let mut set: u32 = 0;
     while set < 4 {
         let slot = entry::slot_of(set, vpn) as usize;
-        slots[slot] = wire::number_at(buffer, slot);
+        slots[slot] = wire::read(buffer, slot);
         set += 1;
     }
 }

@@ -40,7 +40,7 @@ fn put_back(slots: &[u64], buffer: &mut [u8], vpn: u32)
     let mut set: u32 = 0;
     while set < 4 {
         let slot = entry::slot_of(set, vpn) as usize;
-        wire::put_number(buffer, slot, slots[slot]);
+        wire::write(buffer, slot, slots[slot]);
         set += 1;
     }
 }

@@ -18,7 +18,7 @@ fn start_with(registers: &mut [u8], buffer: &mut [u8], slots: &mut [u64]) -> u64
     let reply = control::start(slots);
     let after = reply.registers;
     crate::put_registers(registers, after);
-    wire::encode64(slots, buffer);
+    wire::encode(slots, buffer);
     0
 }
 

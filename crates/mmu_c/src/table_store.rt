@@ -40,9 +40,9 @@ fn store_with(
     if !accepted {
         return crate::refusal_answer(refusal);
     }
-    wire::decode64(buffer, slots);
+    wire::decode(buffer, slots);
     let emptied = table_bytes::rewrite(slots, tables, index, value);
-    wire::encode64(slots, buffer);
+    wire::encode(slots, buffer);
     emptied as u64
 }
 

@@ -7,7 +7,6 @@ mod mups16_scenarios;
 ghost use Rattle.std.specs.Prelude.{◌^◌, ◌<◌, ◌≤◌};
 ghost use Rattle.entry.specs.Address.{PAGE, PAGES};
 
-use access::Physical;
 use collector::Collected;
 use heap::{Mapped, Pool};
 use mmu::RawReply;
@@ -97,10 +96,10 @@ fn access_of(scenario: u32, i: u64) -> Access
     reading(((7 * i) % 64) as u32, 291, 0)
 }
 
-fn address_of(physical: Physical) -> u64 {
+fn address_of(physical: Option<u32>) -> u64 {
     match physical {
-        Physical::Address(address) => address as u64,
-        Physical::None => 0,
+        Some(address) => address as u64,
+        None => 0,
     }
 }
 
@@ -381,12 +380,12 @@ fn prepare(buffer: &mut [u64], words: &mut [u32]) -> Registers {
 fn pace(input: &mut impl Read, output: &mut impl Write, buffer: &mut [u64], words: &mut [u32]) {
     let mut bytes = [0u8; 8];
     let _ = input.read_exact(&mut bytes);
-    let scenario = wire::word_at(&bytes, 0);
-    let count = wire::word_at(&bytes, 1);
+    let scenario = wire::read::<u32>(&bytes, 0);
+    let count = wire::read::<u32>(&bytes, 1);
     let r = prepare(buffer, words);
     let sum = run(r, buffer, words, scenario, count);
     let mut answer = [0u8; 8];
-    wire::put_number(&mut answer, 0, sum);
+    wire::write(&mut answer, 0, sum);
     let _ = output.write_all(&answer);
 }
 

@@ -11,10 +11,10 @@ pub returns-then-not-accepted : goal.returns-then-not-accepted
 returns-then-not-accepted c = refused-setting _ _ _ _ _ c.if-not-long.false c.registers_of-r.ensures.registers c.guarded_setting-reply.ensures _
     c.reply_answer-answer.ensures c.if-not-accepted.true
 
-pub put_word-requires : goal.put_word-requires
-put_word-requires c = place _ _ _ _ _ c.if-not-long.false c.registers_of-r.ensures.registers c.guarded_setting-reply.ensures _
+pub write-requires : goal.write-requires
+write-requires c = place _ _ _ _ _ c.if-not-long.false c.registers_of-r.ensures.registers c.guarded_setting-reply.ensures _
     c.reply_answer-answer.ensures c.if-not-accepted.false
 
 pub returns : goal.returns
 returns c = set _ _ _ _ _ c.if-not-long.false c.registers_of-r.ensures.registers c.guarded_setting-reply.ensures _
-    c.reply_answer-answer.ensures c.if-not-accepted.false _ c.put_word.ensures
+    c.reply_answer-answer.ensures c.if-not-accepted.false _ c.write.ensures

@@ -11,8 +11,8 @@ refusal_answer-requires c = refusal-lt _ _ _ _ _ c.store_refusal-refusal.ensures
 pub returns-then-not-accepted : goal.returns-then-not-accepted
 returns-then-not-accepted c = refused _ _ _ _ _ c.store_refusal-refusal.ensures _ c.if-not-accepted.true c.refusal_answer.ensures
 
-pub decode64-requires : goal.decode64-requires
-decode64-requires c = omega (
+pub decode-requires : goal.decode-requires
+decode-requires c = omega (
   arith,
   (lengths _ _ _ _ _ c.store_refusal-refusal.ensures
       c.if-not-accepted.false).0,
@@ -21,23 +21,23 @@ decode64-requires c = omega (
 
 pub rewrite-emptied-requires : goal.rewrite-emptied-requires
 rewrite-emptied-requires c = let n = lengths _ _ _ _ _ c.store_refusal-refusal.ensures c.if-not-accepted.false in (
-  run_fits _ (c.decode64.auto.numbers
+  run_fits _ (c.decode.auto.numbers
       ∙ c.requires),
   n.1,
   n.2,
 )
 
-pub encode64-requires : goal.encode64-requires
-encode64-requires c = let n = lengths _ _ _ _ _ c.store_refusal-refusal.ensures
+pub encode-requires : goal.encode-requires
+encode-requires c = let n = lengths _ _ _ _ _ c.store_refusal-refusal.ensures
     c.if-not-accepted.false in omega (
       arith,
       n.0,
-      c.rewrite-emptied.auto.buffer ∙ c.decode64.auto.numbers
+      c.rewrite-emptied.auto.buffer ∙ c.decode.auto.numbers
           ∙ c.requires,
     )
 
 pub returns : goal.returns
 returns c = stored _ _ _ _ _ c.store_refusal-refusal.ensures _ _ _ _ _ c.if-not-accepted.false
-    (c.decode64.ensures ∙ ap (decoded 8 _)
+    (c.decode.ensures ∙ ap (decoded 8 _)
     c.requires) c.rewrite-emptied.ensures
-    c.encode64.ensures
+    c.encode.ensures
