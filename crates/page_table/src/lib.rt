@@ -162,30 +162,29 @@ pub fn index_below(vpn: u32, levels: u32, word: u32) -> u32
     (size * number_of(word) + index_in(levels, vpn)) as u32
 }
 
-// The walk from a word, which stands at an index of the run and has so many levels below it: where it ends, and the word that it read
-// there.
-fn descend<T: TableRun>(tables: T, vpn: u32, levels: u32, word: u32, index: u32) -> End
-    requires { (vpn < PAGES) × (levels ≤ 2) × (index < LONGEST) × (word ≡ get_or (T.words tables) index 0) }
-    ensures { result ≡ end_read (T.words tables) vpn levels index }
+// Goes on with a walk from the word at which it stands, as far as words lead on: there it ends, with the word that it read. Run and end
+// are lent, and each level hands them on as they are: that lets the compiler make a loop of the calls.
+fn descend<T: TableRun>(tables: &T, vpn: u32, end: &mut End)
+    requires { (vpn < PAGES) × (end.old.levels ≤ 2) × (end.old.index < LONGEST) × (end.old.word ≡ get_or (T.words tables.now) end.old.index 0) }
+    ensures { end.new ≡ end_read (T.words tables.now) vpn end.old.levels end.old.index }
 {
+    let levels = end.levels;
     if levels == 0 {
-        return End {
-            levels,
-            word,
-            index,
-        };
+        return;
     }
+    let run = *tables;
+    let word = end.word;
     let below = levels - 1;
-    if !leads_on(tables.count(), below, word) {
-        return End {
-            levels,
-            word,
-            index,
-        };
+    if !leads_on(run.count(), below, word) {
+        return;
     }
-    let part = tables.stretch(stretch_size(below), number_of(word));
-    let next = part.word_at(index_in(below, vpn));
-    descend(tables, vpn, below, next, index_below(vpn, below, word))
+    let part = run.stretch(stretch_size(below), number_of(word));
+    *end = End {
+        levels: below,
+        word: part.word_at(index_in(below, vpn)),
+        index: index_below(vpn, below, word),
+    };
+    descend(tables, vpn, end)
 }
 
 // The answer of a walk, by its end: what the word says that the walk read there.
@@ -214,7 +213,12 @@ fn walk_tree<T: TableRun>(tables: T, vpn: u32, global: bool, root: u32) -> Walk
     ensures { result ≡ walk_tree (T.words tables) vpn global root }
 {
     let word = tables.word_at(root as usize);
-    let end = descend(tables, vpn, 2, word, root);
+    let mut end = End {
+        levels: 2,
+        word,
+        index: root,
+    };
+    descend(&tables, vpn, &mut end);
     ended(global, end)
 }
 

@@ -31,8 +31,9 @@ impl<'a> TableRun for TableBytes<'a> {
     }
 
     fn stretch(self, size: usize, number: usize) -> TableBytes<'a>
-        ensures words { words_of result.bytes.now ≡ stretch (words_of self.bytes.now) size number }
-        ensures bytes { result.bytes.now ≡ stretch_bytes self.bytes.now size number }
+        requires { size * number + size ≤ length (words_of self.bytes.now) }
+        ensures words { words_of result.bytes.now ≡ stretch (words_of self.entry.bytes.now) size number }
+        ensures bytes { result.bytes.now ≡ stretch_bytes self.entry.bytes.now size number }
     {
         let from = WORD * size * number;
         TableBytes {

@@ -2,4 +2,4 @@
 use Rattle.page_table.proofs.+descend.Given as goal
 
 abbrev pub decreases-descend : goal.decreases-descend
-decreases-descend g l = l.levels
+decreases-descend g l = l.end.now.levels
