@@ -179,9 +179,10 @@ fn descend<T: TableRun>(tables: &T, vpn: u32, end: &mut End)
         return;
     }
     let part = run.stretch(stretch_size(below), number_of(word));
+    let next = part.word_at(index_in(below, vpn));
     *end = End {
         levels: below,
-        word: part.word_at(index_in(below, vpn)),
+        word: next,
         index: index_below(vpn, below, word),
     };
     descend(tables, vpn, end)
@@ -208,7 +209,7 @@ pub fn ended(global: bool, end: End) -> Walk
 }
 
 // The walk of one tree, from its root.
-fn walk_tree<T: TableRun>(tables: T, vpn: u32, global: bool, root: u32) -> Walk
+pub fn walk_tree<T: TableRun>(tables: T, vpn: u32, global: bool, root: u32) -> Walk
     requires { (vpn < PAGES) × (root ≤ 63) × (ROOTS ≤ length (T.words tables)) }
     ensures { result ≡ walk_tree (T.words tables) vpn global root }
 {

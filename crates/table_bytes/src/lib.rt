@@ -35,14 +35,16 @@ impl<'a> TableRun for TableBytes<'a> {
         ensures words { words_of result.bytes.now ≡ stretch (words_of self.entry.bytes.now) size number }
         ensures bytes { result.bytes.now ≡ stretch_bytes self.entry.bytes.now size number }
     {
-        let from = WORD * size * number;
+        let long = WORD * size;
+        let from = long * number;
         TableBytes {
-            bytes: &self.bytes[from..from + WORD * size],
+            bytes: &self.bytes[from..from + long],
         }
     }
 }
 
 // The walk of a page under an identification: the global tree first, and the own tree where that has nothing.
+#[tactic(auto, using(crate::proofs::Words::roots_inside))]
 pub fn walk_page(tables: &[u8], id: u32, vpn: u32) -> Walk
     requires { (id ≤ 63) × (vpn < PAGES) × (4 * ROOTS ≤ length tables.now) }
     ensures { result ≡ walk_page (words_of tables.now) id vpn }

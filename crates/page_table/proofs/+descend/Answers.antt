@@ -23,8 +23,8 @@ stretch-part-requires g t c =
     let on = sym judged ∙ not-false _ c.if-not-leads_on.false-raw in
     lent-inside _ _ _ _ _ on c.stretch_size.ensures c.number_of.ensures
 
-pub word_at-requires : goal.word_at-requires
-word_at-requires g t c =
+pub word_at-next-requires : goal.word_at-next-requires
+word_at-next-requires g t c =
     let judged = in-run _ _ _ _ _ c.count.ensures c.leads_on.ensures in
     let on = sym judged ∙ not-false _ c.if-not-leads_on.false-raw in
     let part = lent _ _ _ _ _ c.stretch_size.ensures c.number_of.ensures c.stretch-part.ensures in
@@ -37,7 +37,7 @@ descend-requires g t c κs within =
     let on = sym judged ∙ not-false _ c.if-not-leads_on.false-raw in
     let part = lent _ _ _ _ _ c.stretch_size.ensures c.number_of.ensures c.stretch-part.ensures in
     let stands =
-    next-stands _ _ _ _ c.requires.0 on _ part _ c.index_in.ensures _ _ c.word_at.ensures c.index_below.ensures in
+    next-stands _ _ _ _ c.requires.0 on _ part _ c.index_in.ensures _ _ c.word_at-next.ensures c.index_below.ensures in
     let room = below-lt _ _ _ _ c.requires.0 c.index_below.ensures in
     (omega (arith, c.decreases, more), (within, (c.requires.0, omega arith, room, stands)))
 

@@ -6,14 +6,11 @@ use Rattle.table_bytes.specs.TableBytes.{stretch_bytes}
 use Rattle.table_bytes.proofs.Steps.{bytes_inside, stretch-words}
 use Rattle.table_bytes.proofs.TableBytesTableRun.stretch.Goals as goal
 
+pub overflow_mul-long : goal.overflow_mul-long
+overflow_mul-long c = omega (arith, bytes_inside _ _ _ c.requires)
+
 pub overflow_mul-from : goal.overflow_mul-from
 overflow_mul-from c = omega (arith, bytes_inside _ _ _ c.requires)
-
-pub overflow_mul-from-2 : goal.overflow_mul-from-2
-overflow_mul-from-2 c = omega (arith, bytes_inside _ _ _ c.requires)
-
-pub overflow_mul-result : goal.overflow_mul-result
-overflow_mul-result c = omega (arith, bytes_inside _ _ _ c.requires)
 
 pub overflow_add-result : goal.overflow_add-result
 overflow_add-result c = omega (arith, bytes_inside _ _ _ c.requires)
