@@ -1,12 +1,12 @@
 -- The ways of the code through a walk, from what its tests and calls gave. Assumes nothing.
 use Prim.Native.Nat.{ℕ, zero, suc, ◌+◌, ◌-◌, ◌*◌, ◌≤◌, ◌<◌}
 use mathlib.Core.Path.{◌≡◌, refl, sym, ap, ◌∙◌}
-use mathlib.Core.Bool.{Bool, true, false, not}
+use mathlib.Core.Bool.{Bool, true, false}
 use mathlib.Core.List.{List}
 use lib.ListN.{length, get_or}
 use native.Mathlib.Numerals.{sub-one}
 use native.Mathlib.Omega.{arith}
-use borrow.Author.Tests.{not-true, not-false}
+use borrow.Author.Tests.{not-true}
 use Rattle.runs.proofs.Bools.{both}
 use Rattle.page_table.specs.Words.{present, number}
 use Rattle.page_table.specs.Stretches.{stretch_size, index_in, stretch}
@@ -81,18 +81,18 @@ module _ (words : List ℕ) (vpn levels word at : ℕ) (stands : word ≡ get_or
   end-leaf e = rw (stands, e) refl
 
   module _ (more : levels ≡ 0 → ⊥) (b : Bool) (judged : b ≡ leads_on (length words) (levels - 1) word) where
-    pub end-stuck : not b ≡ true → end_at levels word at ≡ end_read words vpn levels at
+    pub end-stuck : b ≡ false → end_at levels word at ≡ end_read words vpn levels at
     unfolding end_read
-    end-stuck h = go levels more (sym judged ∙ not-true b h)
+    end-stuck h = go levels more (sym judged ∙ h)
       where
         go : (n : ℕ) → (n ≡ 0 → ⊥) → leads_on (length words) (n - 1) word ≡ false → end_at n word at ≡ end_read words vpn n at
         go zero ne off = absurd (ne refl)
         go (suc n) ne off = sym (rw (← stands, rw (sub-one (suc n)) at off))
 
-    pub end_on : not b ≡ false → (next : ℕ) → next ≡ index_below vpn (levels - 1) word → (r : End) → r ≡ end_read words vpn (levels - 1) next
+    pub end_on : b ≡ true → (next : ℕ) → next ≡ index_below vpn (levels - 1) word → (r : End) → r ≡ end_read words vpn (levels - 1) next
         → r ≡ end_read words vpn levels at
     unfolding end_read
-    end_on h next e r given = given ∙ go levels more (sym judged ∙ not-false b h) e
+    end_on h next e r given = given ∙ go levels more (sym judged ∙ h) e
       where
         go : (n : ℕ) → (n ≡ 0 → ⊥) → leads_on (length words) (n - 1) word ≡ true → next ≡ index_below vpn (n - 1) word
             → end_read words vpn (n - 1) next ≡ end_read words vpn n at
@@ -101,21 +101,21 @@ module _ (words : List ℕ) (vpn levels word at : ℕ) (stands : word ≡ get_or
 
 -- what a word says at which a walk ends
 module _ (global : Bool) (levels word at : ℕ) (b : Bool) (seen : b ≡ present word) where
-  pub says-absent : not b ≡ true → Absent (stop_at global levels) ≡ decided global levels word at
+  pub says-absent : b ≡ false → Absent (stop_at global levels) ≡ decided global levels word at
   unfolding decided
-  says-absent h = go levels (sym seen ∙ not-true b h)
+  says-absent h = go levels (sym seen ∙ h)
     where
       go : (l : ℕ) → present word ≡ false → Absent (stop_at global l) ≡ decided global l word at
       go zero off = sym (rw off)
       go (suc n) off = sym (rw off)
 
-  pub says-leaf : not b ≡ false → levels ≡ 0 → Leaf (record { global = global; word = word; index = at }) ≡ decided global levels word at
+  pub says-leaf : b ≡ true → levels ≡ 0 → Leaf (record { global = global; word = word; index = at }) ≡ decided global levels word at
   unfolding decided
-  says-leaf h e = sym (rw (e, sym seen ∙ not-false b h))
+  says-leaf h e = sym (rw (e, sym seen ∙ h))
 
-  pub says-broken : not b ≡ false → (levels ≡ 0 → ⊥) → Broken (stop_at global levels) ≡ decided global levels word at
+  pub says-broken : b ≡ true → (levels ≡ 0 → ⊥) → Broken (stop_at global levels) ≡ decided global levels word at
   unfolding decided
-  says-broken h more = go levels more (sym seen ∙ not-false b h)
+  says-broken h more = go levels more (sym seen ∙ h)
     where
       go : (l : ℕ) → (l ≡ 0 → ⊥) → present word ≡ true → Broken (stop_at global l) ≡ decided global l word at
       go zero ne on = absurd (ne refl)

@@ -95,7 +95,7 @@ pub fn tables_fit(words: &[u32]) -> bool
     (TABLE <= n) & (n <= LONGEST) & (n % TABLE == 0)
 }
 
-// How many words a stretch has, by the levels left below it: a table none, a directory one.
+// How many words a stretch has, by the levels left below it: a table none, a directory one. No enum says which: the walk counts levels.
 pub fn stretch_size(levels: u32) -> usize
     ensures { result ≡ stretch_size levels }
 {
@@ -116,7 +116,7 @@ pub fn index_in(levels: u32, vpn: u32) -> usize
     }
 }
 
-// Whether a word is present.
+// Whether a word is present. A bit is read as its definition has it, by shift and remainder, as everywhere here: a mask is no plainer.
 pub fn is_present(word: u32) -> bool
     ensures { result ≡ present word }
 {

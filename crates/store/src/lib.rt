@@ -119,7 +119,8 @@ pub fn sweep<T: TableRun>(buffer: &mut [u64], tables: T) -> u32
     emptied
 }
 
-// Writes one word and sweeps; answers how many slots were emptied.
+// Writes one word and sweeps; answers how many slots were emptied. The bytes have these two lines too: a run that is lent to be written
+// is not copied, as a `TableRun` is, and no trait can lend it on for a shorter time.
 pub fn rewrite(buffer: &mut [u64], words: &mut [u32], index: u32, value: u32) -> u32
     requires { (buffer_fits (Buffer.Wide buffer.old) ≡ true) × (ROOTS ≤ length words.old) × (index < length words.old) }
     ensures { RewriteGives ((record { index = index; value = value }) ∷ []) words.old words.new

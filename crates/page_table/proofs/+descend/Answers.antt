@@ -2,7 +2,6 @@
 use native.Mathlib.Nat.{pos_of_ne-zero}
 use native.Mathlib.Omega.{arith}
 use mathlib.Core.Path.{sym, ◌∙◌}
-use borrow.Author.Tests.{not-false}
 use Rattle.page_table.specs.Ends.{end_at}
 use Rattle.page_table.proofs.Descents.{in-run, lent-inside, lent, next-inside, next-stands, below-lt, end-leaf, end-stuck, end_on}
 use Rattle.page_table.proofs.+descend.Goals as goal
@@ -15,18 +14,18 @@ pub returns-then-not-leads_on : goal.returns-then-not-leads_on
 unfolding end_at
 returns-then-not-leads_on g t c =
     let judged = in-run _ _ _ _ _ c.count.ensures c.leads_on.ensures in
-    end-stuck _ _ _ _ _ c.requires.3 c.if-levels-eq0.false _ judged c.if-not-leads_on.true-raw
+    end-stuck _ _ _ _ _ c.requires.3 c.if-levels-eq0.false _ judged c.if-not-leads_on.true
 
 pub stretch-part-requires : goal.stretch-part-requires
 stretch-part-requires g t c =
     let judged = in-run _ _ _ _ _ c.count.ensures c.leads_on.ensures in
-    let on = sym judged ∙ not-false _ c.if-not-leads_on.false-raw in
+    let on = sym judged ∙ c.if-not-leads_on.false in
     lent-inside _ _ _ _ _ on c.stretch_size.ensures c.number_of.ensures
 
 pub word_at-next-requires : goal.word_at-next-requires
 word_at-next-requires g t c =
     let judged = in-run _ _ _ _ _ c.count.ensures c.leads_on.ensures in
-    let on = sym judged ∙ not-false _ c.if-not-leads_on.false-raw in
+    let on = sym judged ∙ c.if-not-leads_on.false in
     let part = lent _ _ _ _ _ c.stretch_size.ensures c.number_of.ensures c.stretch-part.ensures in
     next-inside _ _ _ _ c.requires.0 on _ part _ c.index_in.ensures
 
@@ -34,7 +33,7 @@ pub descend-requires : goal.descend-requires
 descend-requires g t c κs within =
     let more = pos_of_ne-zero c.if-levels-eq0.false in
     let judged = in-run _ _ _ _ _ c.count.ensures c.leads_on.ensures in
-    let on = sym judged ∙ not-false _ c.if-not-leads_on.false-raw in
+    let on = sym judged ∙ c.if-not-leads_on.false in
     let part = lent _ _ _ _ _ c.stretch_size.ensures c.number_of.ensures c.stretch-part.ensures in
     let stands =
     next-stands _ _ _ _ c.requires.0 on _ part _ c.index_in.ensures _ _ c.word_at-next.ensures c.index_below.ensures in
@@ -44,4 +43,4 @@ descend-requires g t c κs within =
 pub returns : goal.returns
 returns g t c =
     let judged = in-run _ _ _ _ _ c.count.ensures c.leads_on.ensures in
-    end_on _ _ _ _ _ c.requires.3 c.if-levels-eq0.false _ judged c.if-not-leads_on.false-raw _ c.index_below.ensures _ c.descend.ensures
+    end_on _ _ _ _ _ c.requires.3 c.if-levels-eq0.false _ judged c.if-not-leads_on.false _ c.index_below.ensures _ c.descend.ensures

@@ -6,12 +6,12 @@ use Rattle.page_table.proofs.ended.Goals as goal
 
 pub returns-then-not-is_present : goal.returns-then-not-is_present
 unfolding stop_at ending
-returns-then-not-is_present c = says-absent _ _ _ _ _ c.is_present.ensures c.if-not-is_present.true-raw
+returns-then-not-is_present c = says-absent _ _ _ _ _ c.is_present.ensures c.if-not-is_present.true
 
 pub returns-then-end-eq0 : goal.returns-then-end-eq0
 unfolding ending
-returns-then-end-eq0 c = says-leaf _ _ _ _ _ c.is_present.ensures c.if-not-is_present.false-raw c.if-end-eq0.true
+returns-then-end-eq0 c = says-leaf _ _ _ _ _ c.is_present.ensures c.if-not-is_present.false c.if-end-eq0.true
 
 pub returns : goal.returns
 unfolding stop_at ending
-returns c = says-broken _ _ _ _ _ c.is_present.ensures c.if-not-is_present.false-raw c.if-end-eq0.false
+returns c = says-broken _ _ _ _ _ c.is_present.ensures c.if-not-is_present.false c.if-end-eq0.false
