@@ -11,7 +11,8 @@ const USER: u32 = 59;
 
 const WRITE: u32 = 58;
 
-// The register that each kind sets: 2 CONTEXT, 3 CTRL, 4 KSEG, 5 KBASE_LO, 6 KBASE_HI, 7 ENABLE. Kinds 0 and 1 set none.
+// The register that each kind sets: 2 CONTEXT, 3 CTRL, 4 KSEG, 5 KBASE_LO, 6 KBASE_HI, 7 ENABLE. Kinds 0 and 1 set none. A table, since six
+// arms that differ in a number are no plainer.
 const SETTINGS: [u32; 8] = [0, 0, 5, 1, 0, 3, 4, 2];
 
 // How many values an index has, of 24 bits, and a value, of 32.
