@@ -44,7 +44,7 @@ const ADDRESSES: u32 = 1 << 16;
 const STATE_BYTES: usize = 12;
 
 // What a call answers: two words, or that it is refused.
-type Answer = Result<[u32; 2], Refusal>;
+type Answer = Result<(u32, u32), Refusal>;
 
 pub(crate) fn is_operation(number: u32) -> bool {
     Operation::try_from(number).is_ok()
@@ -87,13 +87,13 @@ fn write_state(output: &mut impl Write, state: State) {
 
 fn call_answer(answer: Answer, registers: Registers) -> crate::Answer {
     match answer {
-        Ok([first, second]) => answered(0, first, second, 0, registers),
+        Ok((first, second)) => answered(0, first, second, 0, registers),
         Err(refusal) => answered(1, refusal.into(), 0, 0, registers),
     }
 }
 
-fn word_answer(word: u16) -> [u32; 2] {
-    [u32::from(word), 0]
+fn word_answer(word: u16) -> (u32, u32) {
+    (u32::from(word), 0)
 }
 
 // A map; its mode is user + 2 x write.
@@ -105,7 +105,7 @@ fn map(entries: &[u32], state: State, address: u32, mode: u32) -> (Answer, State
         mode % 2 == 1,
         (mode / 2) % 2 == 1,
     );
-    let answer = reply.answer.map(|m| [m.address, m.faults()]);
+    let answer = reply.answer.map(|m| (m.address, m.faults()));
     (answer, reply.state)
 }
 
@@ -120,9 +120,9 @@ fn call(operation: Operation, q: Request, entries: &mut [u32]) -> (Answer, State
             state,
         ),
         Operation::FaultAddress => (Ok(word_answer(mups16::fault_address(state))), state),
-        Operation::SetTableIndex => (Ok([0, 0]), mups16::set_table_index(state, q.second)),
+        Operation::SetTableIndex => (Ok((0, 0)), mups16::set_table_index(state, q.second)),
         Operation::SetEntry => (
-            mups16::set_entry(entries, q.second, q.third).map(|()| [0, 0]),
+            mups16::set_entry(entries, q.second, q.third).map(|()| (0, 0)),
             state,
         ),
     }
