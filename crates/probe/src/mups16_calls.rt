@@ -74,7 +74,7 @@ pub(crate) fn read_state(input: &mut impl Read, kind: u32) -> Option<State> {
 
 fn write_state(output: &mut impl Write, state: State) {
     let mut bytes = [0u8; STATE_BYTES];
-    wire::encode32(
+    wire::encode(
         &[
             state.table_index,
             bit(state.boot_mode),

@@ -44,7 +44,7 @@ fn descend(tables: &&[u8], vpn: u32, levels: u32, word: u32, index: u32) -> u64
     }
     let part = stretch(run, below, word);
     let at = page_table::index_in(below, vpn);
-    let next = wire::word_at(part, at);
+    let next = wire::read::<u32>(part, at);
     descend(
         tables,
         vpn,
@@ -59,7 +59,7 @@ fn walk_tree(tables: &[u8], vpn: u32, global: bool, root: u32) -> Walk
     requires { (vpn < PAGES) × (root ≤ 63) × (4 * ROOTS ≤ length tables.now) }
     ensures { result ≡ walk_tree (words_of tables.now) vpn global root }
 {
-    let word = wire::word_at(tables, root as usize);
+    let word = wire::read::<u32>(tables, root as usize);
     let end = descend(&tables, vpn, 2, word, root);
     page_table::ended(global, end)
 }
@@ -113,6 +113,6 @@ pub fn rewrite(buffer: &mut [u64], tables: &mut [u8], index: u32, value: u32) ->
     ensures { RewriteGives (record { index = index; value = value }) tables.old tables.new
         (Buffer.Wide buffer.old) (Buffer.Wide buffer.new) result }
 {
-    wire::put_word(tables, index as usize, value);
+    wire::write(tables, index as usize, value);
     sweep(buffer, tables)
 }

@@ -14,7 +14,7 @@ pub fn command_at(input: &[u8], i: usize) -> Command
     if input.len() / 8 <= i {
         return Command::Malformed;
     }
-    let bits = wire::number_at(input, i);
+    let bits = wire::read::<u64>(input, i);
     crate::command_of(bits)
 }
 

@@ -19,8 +19,8 @@ returns-then-not-leads_on t c =
 pub stretch-part-requires : goal.stretch-part-requires
 stretch-part-requires t c = sym (in_words _ _ _ _ c.leads_on.ensures) ∙ c.if-not-leads_on.false
 
-pub word_at-next-requires : goal.word_at-next-requires
-word_at-next-requires t c =
+pub read-next-requires : goal.read-next-requires
+read-next-requires t c =
     let on = sym (in_words _ _ _ _ c.leads_on.ensures) ∙ c.if-not-leads_on.false in
     next-inside _ _ _ on _ c.requires.0 _ c.stretch-part.ensures _ c.index_in-at.ensures
 
@@ -29,7 +29,7 @@ descend-requires t c =
     let more = pos_of_ne-zero c.if-last.false in
     let on = sym (in_words _ _ _ _ c.leads_on.ensures) ∙ c.if-not-leads_on.false in
     let stands =
-    next-stands _ _ _ on _ c.requires.0 _ c.stretch-part.ensures _ c.index_in-at.ensures _ _ c.word_at-next.ensures
+    next-stands _ _ _ on _ c.requires.0 _ c.stretch-part.ensures _ c.index_in-at.ensures _ _ c.read-next.ensures.number
     c.index_below.ensures in
     let room = below-lt _ _ _ _ c.requires.0 c.index_below.ensures in
     (omega (arith, c.decreases, more), (c.requires.0, omega arith, room, stands))

@@ -7,7 +7,7 @@ use Rattle.table_bytes.proofs.walk_tree.Goals as goal
 pub descend-end-requires : goal.descend-end-requires
 descend-end-requires c =
     let inside = root-inside _ _ c.requires.2 c.requires.1 in
-    (c.requires.0, omega arith, omega (arith, c.requires.1), word_stands _ _ _ inside c.word_at-word.ensures)
+    (c.requires.0, omega arith, omega (arith, c.requires.1), word_stands _ _ _ inside c.read-word.ensures.number)
 
 pub ended-requires : goal.ended-requires
 ended-requires c = tree-fits _ _ _ _ _ c.requires.0 (omega arith) c.requires.1 c.descend-end.ensures
