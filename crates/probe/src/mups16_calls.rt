@@ -78,7 +78,7 @@ fn write_state(output: &mut impl Write, state: State) {
         &[
             state.table_index,
             bit(state.boot_mode),
-            state.fault_address as u32,
+            u32::from(state.fault_address),
         ],
         &mut bytes,
     );
@@ -128,7 +128,8 @@ fn call(operation: Operation, q: Request, entries: &mut [u32]) -> (Answer, State
     }
 }
 
-// Makes a request's call over the entries, and writes the answer and the state after it. Its operation is one.
+// Makes a request's call over the entries, and writes the answer and the state after it. A number that names no operation is
+// not asked for: see `is_operation`.
 pub(crate) fn reply(output: &mut impl Write, q: Request, entries: &mut [u32]) {
     let Ok(operation) = Operation::try_from(q.first) else {
         return;
