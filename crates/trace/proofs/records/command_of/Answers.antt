@@ -1,6 +1,5 @@
 use native.Mathlib.Omega.{arith}
-use mathlib.Core.Path.{refl}
-use Rattle.trace.specs.Commands.{kind_of, index_of, value_of, user_of, write_of, draw_of, access_of, setting_of, setting_numbers}
+use Rattle.trace.specs.Commands.{kind_of, index_of, user_of, write_of, draw_of, setting_of, setting_numbers}
 use Rattle.trace.proofs.RecordLaws.{malformed, serves, stores, sets, kind-lt}
 use Rattle.trace.proofs.records.command_of.Goals as goal
 
