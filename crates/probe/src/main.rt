@@ -7,9 +7,10 @@ mod mups16_calls;
 ghost use Rattle.std.specs.Prelude.{◌≡◌, ◌*◌, ◌≤◌, length};
 ghost use Rattle.probe.specs.Lengths.{SLOTS, WORDS};
 
+use access::Translation;
 use collector::Collected;
 use heap::{Mapped, Pool, PoolReply};
-use mmu::RawReply;
+use mmu::Refused;
 use mups16::State;
 use page_table::Walk;
 use registers::{Outcome, Registers, Reply};
@@ -154,10 +155,10 @@ fn bit(flag: bool) -> u32
     if flag { 1 } else { 0 }
 }
 
-fn raw_answer(reply: RawReply) -> Answer {
+fn raw_answer(reply: Result<Translation, Refused>) -> Answer {
     match reply {
-        RawReply::Refused(number, registers) => answered(2, number, 0, 0, registers),
-        RawReply::Answered(t) => {
+        Err(refused) => answered(2, refused.number, 0, 0, refused.registers),
+        Ok(t) => {
             let flags = bit(t.interrupt) + 2 * bit(t.exception);
             let physical = t.physical;
             let registers = t.registers;
@@ -363,9 +364,13 @@ fn read_request(input: &mut impl Read) -> Request {
     let mut field_bytes = [0u8; REGISTER_BYTES];
     let mut fields = [0u32; 11];
     let got = head & read_words(input, &mut field_bytes, &mut fields);
-    let s = mups16_calls::read_state(input, words[0]);
-    let state = s.state;
-    requested(got & s.got, words, fields, state)
+    let state = mups16_calls::read_state(input, words[0]);
+    requested(
+        got & state.is_some(),
+        words,
+        fields,
+        state.unwrap_or_default(),
+    )
 }
 
 // Reads a pool where the kind has one.
