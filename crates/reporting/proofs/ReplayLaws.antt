@@ -7,7 +7,7 @@ use mathlib.Core.Logic.{◌⊎◌, inl, inr}
 use native.Mathlib.Omega.{arith}
 use lib.Dec.{ltb}
 use lib.IntN.{ℤ, pos}
-use lib.ListN.{length, length-append, replicate, take}
+use lib.ListN.{length, length-append, length-replicate, replicate, take}
 use lib.Seq.{length-take-le}
 use borrow.Author.Tests.{ltb-true, ltb-false}
 use Rattle.std.specs.Result.{is_ok}
@@ -16,11 +16,13 @@ use Rattle.streams.specs.Filling.{Fills, StopsAt}
 use Rattle.streams.specs.declared.Stop.{Stop}
 use Rattle.streams.specs.declared.Stop.TheVariants.{Full, Ended, Failed}
 use Rattle.registers.specs.declared.Registers.{Registers}
+use Rattle.page_table.specs.Stretches.{length_fits, tables_fit}
 use Rattle.slots.specs.Buffer.{Buffer}
+use Rattle.slots.specs.Buffer.Buffer.{Wide}
 use Rattle.store.specs.Machine.{Machine}
 use Rattle.trace.specs.Commands.{record_count, commands_of, commands_from}
 use Rattle.trace.specs.Traces.{start_machine}
-use Rattle.report.specs.Replays.{machine_in}
+use Rattle.report.specs.Replays.{machine_in, Ready}
 use Rattle.report.specs.Tallies.{Tally, continued, tally_of, ReplayStarts}
 use Rattle.report.specs.Totals.{TOTALS}
 use Rattle.report.specs.declared.Replay.{Replay}
@@ -119,10 +121,23 @@ module _ (m : Machine) (totals : List ℤ) (b : Block) (blocks : ℕ) (p : Repla
       → ReplayGives m totals (record { registers = r; last = b; blocks = blocks }) p input
   last_block r q k e = record { reached = h; why = ends b blocks (block-fills _ _ b p input h.block) k e; registers-are = q }
 
+-- a replay at its start
+pub ready-first : (lent : Buffer) (p : Replay)
+    → ReplayStarts lent p.registers (Wide p.buffer.now) p.words.now p.links.now p.presents.now p.totals.now → Ready p
+unfolding tables_fit length_fits start_machine
+ready-first lent p s = record {
+  runs = record {
+    fit = ap (λ (m : Machine). length_fits (length m.words)) s.machine-is ∙ ap length_fits (length-replicate {A = ℕ} 16384 0);
+    indexed = s.indexed;
+    columns = ap length s.totals-are ∙ length-replicate TOTALS (pos 0);
+  };
+  in-limit = s.in-limit;
+}
+
 -- a file from the start
-pub from_start : (lent : Buffer) (p : Replay) → ReplayStarts lent p → (r : Replayed) (q : Replay) (input : List ℕ)
-    → ReplayGives (machine_in p) p.totals.now r q input
+pub from_start : (lent : Buffer) (m : Machine) (totals : List ℤ) → m ≡ start_machine lent → totals ≡ replicate TOTALS (pos 0)
+    → (r : Replayed) (q : Replay) (input : List ℕ) → ReplayGives m totals r q input
     → ReplayGives (start_machine lent) (replicate TOTALS (pos 0)) r q input
-from_start lent p s r q input g =
-    subst (λ (m : Machine). ReplayGives m (replicate TOTALS (pos 0)) r q input) s.machine-is
-    (subst (λ (t : List ℤ). ReplayGives (machine_in p) t r q input) s.totals-are g)
+from_start lent m totals e t r q input g =
+    subst (λ (x : Machine). ReplayGives x (replicate TOTALS (pos 0)) r q input) e
+    (subst (λ (ts : List ℤ). ReplayGives m ts r q input) t g)

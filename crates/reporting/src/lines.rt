@@ -57,7 +57,15 @@ fn put_open<R: Read>(
     let mut links = [0u32; 16];
     let mut presents = [0u32; 16];
     let mut totals = [0i64; TOTALS];
-    let mut replay = Replay::start(&mut buffer, words, &mut links, &mut presents, &mut totals);
+    let registers = report::start(&mut buffer, words, &mut links, &mut presents, &mut totals);
+    let mut replay = Replay {
+        registers,
+        buffer: &mut buffer,
+        words,
+        links: &mut links,
+        presents: &mut presents,
+        totals: &mut totals,
+    };
     let replayed = replay_file(file, &mut replay, input);
     let ending = ending_of(replayed.last);
     let length = put_ending(out, number, replay.totals, ending);

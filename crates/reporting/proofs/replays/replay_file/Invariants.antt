@@ -5,10 +5,10 @@ use Rattle.reporting.specs.Replays.{MOST}
 use Rattle.reporting.proofs.ReplayLaws.{Handed}
 use Rattle.reporting.proofs.replays.replay_file.Given as goal
 
-abbrev pub invariant-loop-blocks : goal.invariant-loop-blocks
-invariant-loop-blocks g l =
+abbrev pub invariant-loop-last : goal.invariant-loop-last
+invariant-loop-last g l =
     Handed (machine_in l.fn.replay) l.fn.replay.totals.now l.replay l.blocks × Ready l.replay × SameRuns l.fn.replay l.replay
     × (length l.input ≡ BYTES) × (l.blocks < MOST)
 
-abbrev pub decreases-loop-blocks : goal.decreases-loop-blocks
-decreases-loop-blocks g l = MOST - l.blocks
+abbrev pub decreases-loop-last : goal.decreases-loop-last
+decreases-loop-last g l = MOST - l.blocks
