@@ -9,21 +9,14 @@ const PATH: usize = 4096;
 
 // Whether there is such an argument, however long it is.
 fn is_argument<E: Env>(host: &E, argument: usize) -> bool {
-    match host.arg(argument, &mut []) {
-        Ok(_) => true,
-        Err(FillError::TooLong) => true,
-        Err(FillError::NotPresent) => false,
-    }
+    matches!(host.arg(argument, &mut []), Ok(_) | Err(FillError::TooLong))
 }
 
 // How many arguments there are, the program's own name among them.
 fn argument_count<E: Env>(host: &E) -> usize {
-    for i in 0..usize::MAX {
-        if !is_argument(host, i) {
-            return i;
-        }
-    }
-    usize::MAX
+    (0..usize::MAX)
+        .take_while(|i| is_argument(host, *i))
+        .count()
 }
 
 fn main(rt: HostRuntime) {

@@ -17,6 +17,9 @@ use Rattle.trace.proofs.Blocks.{in_blocks, joined, first-length}
 use Rattle.tracing.specs.Blocks.{RECORDS}
 use Rattle.report.specs.Tallies.{Tally, file_tally}
 use Rattle.report.specs.Totals.{TOTALS}
+use Rattle.std.specs.Result.{is_ok}
+use Rattle.streams.specs.declared.Stop.{Stop}
+use Rattle.streams.specs.declared.Stop.TheVariants.{Full, Ended, Failed}
 use Rattle.reporting.specs.Replays.{EndsAt}
 use Rattle.reporting.specs.Endings.{ending_of, ending_text}
 use Rattle.reporting.specs.declared.Block.{Block}
@@ -56,29 +59,32 @@ traced-are-sequences lent b buffer words input out f g =
 
 -- the lines of an ending, by the text
 module _ (number : ℕ) (totals : List ℤ) where
-  refused-lines : (fits failed : Bool) → fits ≡ false → ending_text number totals (ending_of fits failed) ≡ refused_text number
+  refused-lines : (fits : Bool) (stop : Stop) → fits ≡ false → ending_text number totals (ending_of fits stop) ≡ refused_text number
   unfolding ending_of ending_text
-  refused-lines true failed e = absurd (clash refl e)
-  refused-lines false failed e = refl
+  refused-lines true stop e = absurd (clash refl e)
+  refused-lines false stop e = refl
 
-  unread-lines : (fits failed : Bool) → fits ≡ true → failed ≡ true → ending_text number totals (ending_of fits failed) ≡ unread_text number
+  unread-lines : (fits : Bool) (stop : Stop) → fits ≡ true → stop ≡ Failed
+      → ending_text number totals (ending_of fits stop) ≡ unread_text number
   unfolding ending_of ending_text
-  unread-lines true true e q = refl
-  unread-lines true false e q = absurd (clash q refl)
-  unread-lines false failed e q = absurd (clash e refl)
+  unread-lines true Failed e q = refl
+  unread-lines true Full e q = absurd (cc)
+  unread-lines true Ended e q = absurd (cc)
+  unread-lines false stop e q = absurd (clash e refl)
 
-  whole-lines : (fits failed : Bool) → fits ≡ true → failed ≡ false
-      → ending_text number totals (ending_of fits failed) ≡ report_of number totals
+  whole-lines : (fits : Bool) (stop : Stop) → fits ≡ true → (stop ≡ Failed → ⊥)
+      → ending_text number totals (ending_of fits stop) ≡ report_of number totals
   unfolding ending_of ending_text
-  whole-lines true true e q = absurd (clash refl q)
-  whole-lines true false e q = refl
-  whole-lines false failed e q = absurd (clash e refl)
+  whole-lines true Failed e q = absurd (q refl)
+  whole-lines true Full e q = refl
+  whole-lines true Ended e q = refl
+  whole-lines false stop e q = absurd (clash e refl)
 
 -- why a file is whole: its last block ended it
-whole-ends : (b : Block) (blocks : ℕ) → EndsAt b blocks → b.fits ≡ true → b.failed ≡ false
-    → ((b.read < 65536) × (b.ended ≡ true)) ⊎ (blocks ≡ 18446744073709551615)
+whole-ends : (b : Block) (blocks : ℕ) → EndsAt b blocks → is_ok b.counted ≡ true → (b.filled.stop ≡ Failed → ⊥)
+    → ((b.filled.length < 65536) × (b.filled.stop ≡ Ended)) ⊎ (blocks ≡ 18446744073709551615)
 whole-ends b blocks (inl p) e q = absurd (clash e p)
-whole-ends b blocks (inr (inl p)) e q = absurd (clash p q)
+whole-ends b blocks (inr (inl p)) e q = absurd (q p)
 whole-ends b blocks (inr (inr p)) e q = p
 
 pub reported-are-sums : ReportedAreSums
@@ -87,10 +93,9 @@ reported-are-sums number f words input out g =
     let h = g.replay.reached in
     let last = f.replayed.last in
     let c = h.block.counted in
-    let same = joined-tally (start_machine g.lent) (replicate TOTALS (pos 0)) last f.replayed.blocks g.buffer words g.links
-    g.presents g.totals input h in
-    let fits : last.fits ≡ (whole_tally g.lent h.before f input).fits = c.fits-is ∙ sym (ap (λ (t : Tally). t.fits) same) in
-    let totals : g.totals ≡ (whole_tally g.lent h.before f input).totals =
+    let same = joined-tally (start_machine g.lent) (replicate TOTALS (pos 0)) last f.replayed.blocks g.after input h in
+    let fits : is_ok last.counted ≡ (whole_tally g.lent h.before f input).fits = c.fits-is ∙ sym (ap (λ (t : Tally). t.fits) same) in
+    let totals : g.after.totals.now ≡ (whole_tally g.lent h.before f input).totals =
     c.totals-are ∙ sym (ap (λ (t : Tally). t.totals) same) in
     record {
       lent = g.lent;
@@ -98,14 +103,18 @@ reported-are-sums number f words input out g =
       count = h.count;
       full = h.full;
       blocks-are = h.blocks-are;
-      sums = reports-are-sums g.lent (h.before ++ take last.read input) g.lent_fits;
-      refused = λ e. subst (Begins out f.length) (refused-lines number g.totals last.fits last.failed (fits ∙ e)) g.lines;
+      sums = reports-are-sums g.lent (h.before ++ take last.filled.length input) g.lent_fits;
+      refused =
+          λ e. subst (Begins out f.length) (refused-lines number g.after.totals.now (is_ok last.counted) last.filled.stop (fits ∙ e))
+          g.lines;
       unread =
-          λ e q. subst (Begins out f.length) (unread-lines number g.totals last.fits last.failed (fits ∙ e) q) g.lines;
+          λ e q. subst (Begins out f.length)
+          (unread-lines number g.after.totals.now (is_ok last.counted) last.filled.stop (fits ∙ e) q) g.lines;
       whole =
           λ e q. (
             subst (Begins out f.length)
-                (whole-lines number g.totals last.fits last.failed (fits ∙ e) q ∙ ap (report_of number) totals) g.lines,
+                (whole-lines number g.after.totals.now (is_ok last.counted) last.filled.stop (fits ∙ e) q
+                ∙ ap (report_of number) totals) g.lines,
             whole-ends last f.replayed.blocks g.replay.why (fits ∙ e) q,
           );
     }

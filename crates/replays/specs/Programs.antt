@@ -10,6 +10,7 @@ use Rattle.trace.specs.Traces.{start_machine, trace_text}
 use Rattle.tracing.specs.Traces.{TraceGives}
 use Rattle.tracing.specs.declared.Block.{Block}
 use Rattle.report.specs.Tallies.{Tally, file_tally}
+use Rattle.streams.specs.declared.Stop.TheVariants.{Ended, Failed}
 use Rattle.reporting.specs.Reports.{FileGives}
 use Rattle.reporting.specs.declared.Filed.{Filed}
 use Rattle.replays.specs.Traces.{trace_system, trace_events, TraceIsSequence}
@@ -37,7 +38,7 @@ TracedAreSequences = (lent : Buffer) (b : Block) (buffer-after : Buffer) (words-
 
 -- the tally of a file's blocks before the last, and of what was read into that one
 unfoldable pub whole_tally : (lent : Buffer) (before : List ℕ) (f : Filed) (input-after : List ℕ) → Tally
-whole_tally lent before f input-after = file_tally lent (before ++ take f.replayed.last.read input-after)
+whole_tally lent before f input-after = file_tally lent (before ++ take f.replayed.last.filled.length input-after)
 
 -- A file that was opened: full blocks of 65,536 bytes, as many as were counted but one, and what was read into the last one are an input,
 -- and its totals are such sums. Its lines are one of three: refused where a total passed the limit, unread where a read failed, else
@@ -48,13 +49,13 @@ pub record ReportedIsSums (number : ℕ) (f : Filed) (input-after out-after : Li
   pub count : ℕ
   pub full : length before ≡ 65536 * count
   pub blocks-are : f.replayed.blocks ≡ count + 1
-  pub sums : ReportIsSums lent (before ++ take f.replayed.last.read input-after)
+  pub sums : ReportIsSums lent (before ++ take f.replayed.last.filled.length input-after)
   pub refused : (whole_tally lent before f input-after).fits ≡ false → Begins out-after f.length (refused_text number)
-  pub unread : (whole_tally lent before f input-after).fits ≡ true → f.replayed.last.failed ≡ true
+  pub unread : (whole_tally lent before f input-after).fits ≡ true → f.replayed.last.filled.stop ≡ Failed
       → Begins out-after f.length (unread_text number)
-  pub whole : (whole_tally lent before f input-after).fits ≡ true → f.replayed.last.failed ≡ false
+  pub whole : (whole_tally lent before f input-after).fits ≡ true → (f.replayed.last.filled.stop ≡ Failed → ⊥)
       → Begins out-after f.length (report_of number (whole_tally lent before f input-after).totals)
-      × (((f.replayed.last.read < 65536) × (f.replayed.last.ended ≡ true)) ⊎ (f.replayed.blocks ≡ 18446744073709551615))
+      × (((f.replayed.last.filled.length < 65536) × (f.replayed.last.filled.stop ≡ Ended)) ⊎ (f.replayed.blocks ≡ 18446744073709551615))
 
 -- so of every file that the report program opens
 abbrev pub ReportedAreSums : Type 0

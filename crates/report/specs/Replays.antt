@@ -41,11 +41,3 @@ pub record Stepped (p : Replay) (c : Command) (reply : Reply) (q : Replay) : Typ
   pub links : q.links.now ≡ p.links.now
   pub presents : q.presents.now ≡ p.presents.now
   pub totals : q.totals.now ≡ p.totals.now
-
--- a replay works on the runs of these names
-pub record Lent (p : Replay) (buffer words links presents totals : ℕ) : Type 0 where
-  pub buffer-is : p.buffer.ghost_name ≡ buffer
-  pub words-is : p.words.ghost_name ≡ words
-  pub links-is : p.links.ghost_name ≡ links
-  pub presents-is : p.presents.ghost_name ≡ presents
-  pub totals-is : p.totals.ghost_name ≡ totals

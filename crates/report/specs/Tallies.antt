@@ -1,14 +1,16 @@
 -- The totals of a file: its records are replayed one after the other, and each books its gains under the context of that moment.
 use Rattle.std.specs.Prelude.{ℕ, ◌*◌, ◌≡◌, Bool, true, cond, List, [], ◌∷◌, ◌++◌, length, replicate, ℤ, pos}
+use Rattle.registers.specs.declared.Registers.{Registers}
 use Rattle.slots.specs.Buffer.{Buffer}
 use Rattle.store.specs.Machine.{Machine}
+use Rattle.reach.specs.Index.{Indexes}
 use Rattle.trace.specs.Commands.{commands_of}
 use Rattle.trace.specs.Steps.{machine_after_step}
 use Rattle.trace.specs.Traces.{start_machine}
 use Rattle.trace.specs.declared.Command.{Command}
 use Rattle.report.specs.Totals.{TOTALS, Booked, booked_all, AllWithin}
 use Rattle.report.specs.Gains.{gains_of}
-use Rattle.report.specs.Replays.{machine_in, RunsFit, Ready}
+use Rattle.report.specs.Replays.{machine_in, RunsFit}
 use Rattle.report.specs.declared.Replay.{Replay}
 
 -- The machine and the totals after some records, and whether every total stayed within the limit. The file stops at the first record that
@@ -39,10 +41,12 @@ unfoldable pub file_tally : (lent : Buffer) (input : List ℕ) → Tally
 file_tally lent input = tally_of (start_machine lent) (replicate TOTALS (pos 0)) (commands_of input)
 
 -- What the start of a replay promises, whatever was lent: the start state, zero tables with their index, and totals that are all 0.
-pub record ReplayStarts (lent : Buffer) (p : Replay) : Type 0 where
-  pub machine-is : machine_in p ≡ start_machine lent
-  pub totals-are : p.totals.now ≡ replicate TOTALS (pos 0)
-  pub ready : Ready p
+pub record ReplayStarts (lent : Buffer) (registers : Registers) (buffer : Buffer) (words links presents : List ℕ) (totals : List ℤ)
+    : Type 0 where
+  pub machine-is : record { registers = registers; buffer = buffer; words = words } ≡ start_machine lent
+  pub totals-are : totals ≡ replicate TOTALS (pos 0)
+  pub indexed : Indexes words links presents
+  pub in-limit : AllWithin totals
 
 -- Reading in blocks gives the tally of the whole file: where a first stretch is whole records, the tally of both is that of the first,
 -- continued by that of the rest from the machine and the totals that it left.

@@ -8,12 +8,14 @@ mod totals;
 mod traces;
 
 use registers::Registers;
+pub use starting::start;
 
 // A total passed the limit.
 #[derive(Clone, Copy, PartialEq, Eq, Debug)]
 pub struct PastLimit;
 
 // What a replay works on: the registers, and the runs that it is lent. The tables have their index beside them.
+#[derive(Drop)]
 pub struct Replay<'a> {
     pub registers: Registers,
     pub buffer: &'a mut [u64],

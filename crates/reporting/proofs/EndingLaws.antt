@@ -10,24 +10,6 @@ use Rattle.reporting.specs.Endings.{ending_of, ending_text}
 use Rattle.reporting.specs.declared.Ending.{Ending}
 use Rattle.reporting.specs.declared.Ending.TheVariants.{Unread, Refused, Whole}
 
--- how a file ended, in the code's words
-pub ended-refused : (fits failed : Bool) → fits ≡ false → Refused ≡ ending_of fits failed
-unfolding ending_of
-ended-refused true failed h = absurd (clash refl h)
-ended-refused false failed h = refl
-
-pub ended-unread : (fits failed : Bool) → fits ≡ true → failed ≡ true → Unread ≡ ending_of fits failed
-unfolding ending_of
-ended-unread true true h e = refl
-ended-unread true false h e = absurd (clash refl (sym e))
-ended-unread false failed h e = absurd (clash refl (sym h))
-
-pub ended-whole : (fits failed : Bool) → fits ≡ true → failed ≡ false → Whole ≡ ending_of fits failed
-unfolding ending_of
-ended-whole true true h e = absurd (clash refl e)
-ended-whole true false h e = refl
-ended-whole false failed h e = absurd (clash refl (sym h))
-
 -- the lines of an ending
 module _ (out : List ℕ) (number : ℕ) (totals : List ℤ) (ending : Ending) (n : ℕ) (after : List ℕ) where
   pub lines_of : (e : Ending) → ending ≡ e → TextPut out 0 (ending_text number totals e) n after

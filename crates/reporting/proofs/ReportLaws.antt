@@ -6,17 +6,19 @@ use mathlib.Core.List.{List}
 use mathlib.Core.Logic.{◌⊎◌, inl, inr}
 use native.Mathlib.Omega.{arith}
 use lib.Dec.{ltb}
-use lib.IntN.{ℤ, pos}
+use lib.IntN.{pos}
 use lib.ListN.{length, replicate}
 use borrow.Author.Tests.{ltb-true, ltb-false, eq-eqb}
 use Rattle.runs.proofs.Bools.{both, clash}
-use Rattle.slots.specs.Buffer.{Buffer, buffer_fits}
+use Rattle.slots.specs.Buffer.{buffer_fits}
 use Rattle.slots.specs.Buffer.Buffer.{Wide}
 use Rattle.line.specs.Text.{TextPut, Begins}
 use Rattle.line.proofs.TextLaws.{put-begins}
 use Rattle.rows.specs.Rows.{unread_text}
 use Rattle.trace.specs.Traces.{start_machine}
+use Rattle.std.specs.Result.{is_ok}
 use Rattle.report.specs.Totals.{TOTALS}
+use Rattle.report.specs.declared.Replay.{Replay}
 use Rattle.reporting.specs.Replays.{ReplayGives}
 use Rattle.reporting.specs.Endings.{ending_of, ending_text}
 use Rattle.reporting.specs.Reports.{FileGives, FilePut, LastFile, ReportGives}
@@ -25,23 +27,21 @@ use Rattle.reporting.specs.declared.Filed.{Filed}
 use Rattle.reporting.specs.declared.Replayed.{Replayed}
 
 -- a file that was replayed, and the lines of its ending
-pub file-gives : (lent : List ℕ) (number n : ℕ) (buffer : Buffer) (words links presents : List ℕ) (totals : List ℤ)
-    (input out after : List ℕ) (p : Replayed) (ending : Ending) → length lent ≡ 64
-    → ReplayGives (start_machine (Wide lent)) (replicate TOTALS (pos 0)) p buffer words links presents totals input
-    → ending ≡ ending_of p.last.fits p.last.failed → TextPut out 0 (ending_text number totals ending) n after
-    → FileGives number (record { replayed = p; length = n }) words input after
+pub file-gives : (lent : List ℕ) (number n : ℕ) (p : Replay) (words input out after : List ℕ) (r : Replayed) (ending : Ending)
+    → length lent ≡ 64 → words ≡ p.words.now
+    → ReplayGives (start_machine (Wide lent)) (replicate TOTALS (pos 0)) r p input
+    → ending ≡ ending_of (is_ok r.last.counted) r.last.filled.stop → TextPut out 0 (ending_text number p.totals.now ending) n after
+    → FileGives number (record { replayed = r; length = n }) words input after
 unfolding buffer_fits
-file-gives lent number n buffer words links presents totals input out after p ending l g e t = record {
+file-gives lent number n p words input out after r ending l w g e t = record {
   lent = Wide lent;
   lent_fits = eq-eqb (length lent) 64 l;
-  buffer = buffer;
-  links = links;
-  presents = presents;
-  totals = totals;
+  after = p;
+  words_are = w;
   replay = g;
   lines =
-      put-begins out (ending_text number totals (ending_of p.last.fits p.last.failed)) n after
-      (subst (λ (x : Ending). TextPut out 0 (ending_text number totals x) n after) e t);
+      put-begins out (ending_text number p.totals.now (ending_of (is_ok r.last.counted) r.last.filled.stop)) n after
+      (subst (λ (x : Ending). TextPut out 0 (ending_text number p.totals.now x) n after) e t);
 }
 
 pub opened : (number : ℕ) (f : Filed) (words input after : List ℕ) → FileGives number f words input after

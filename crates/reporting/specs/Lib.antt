@@ -1,4 +1,3 @@
-pub mod Files
 pub mod Blocks
 pub mod Replays
 pub mod Endings

@@ -1,10 +1,11 @@
 -- The lines of a file, and the files that the arguments name.
-use Rattle.std.specs.Prelude.{ℕ, ◌+◌, ◌≤◌, ◌≡◌, true, List, ◌⊎◌, length, replicate, ℤ, pos}
+use Rattle.std.specs.Prelude.{ℕ, ◌+◌, ◌≤◌, ◌≡◌, true, List, ◌⊎◌, is_ok, length, replicate, pos}
 use Rattle.slots.specs.Buffer.{Buffer, buffer_fits}
 use Rattle.line.specs.Text.{Begins}
 use Rattle.rows.specs.Rows.{unread_text}
 use Rattle.trace.specs.Traces.{WORDS, start_machine}
 use Rattle.report.specs.Totals.{TOTALS}
+use Rattle.report.specs.declared.Replay.{Replay}
 use Rattle.reporting.specs.Blocks.{BYTES}
 use Rattle.reporting.specs.Replays.{ReplayGives}
 use Rattle.reporting.specs.Endings.{ending_of, ending_text}
@@ -24,12 +25,11 @@ ReportFits words input out = (length words ≡ WORDS) × (length input ≡ BYTES
 pub record FileGives (number : ℕ) (f : Filed) (words-after input-after out-after : List ℕ) : Type 0 where
   pub lent : Buffer
   pub lent_fits : buffer_fits lent ≡ true
-  pub buffer : Buffer
-  pub links : List ℕ
-  pub presents : List ℕ
-  pub totals : List ℤ
-  pub replay : ReplayGives (start_machine lent) (replicate TOTALS (pos 0)) f.replayed buffer words-after links presents totals input-after
-  pub lines : Begins out-after f.length (ending_text number totals (ending_of f.replayed.last.fits f.replayed.last.failed))
+  pub after : Replay
+  pub words_are : words-after ≡ after.words.now
+  pub replay : ReplayGives (start_machine lent) (replicate TOTALS (pos 0)) f.replayed after input-after
+  pub lines : Begins out-after f.length
+      (ending_text number after.totals.now (ending_of (is_ok f.replayed.last.counted) f.replayed.last.filled.stop))
 
 -- one that can't be opened is unread, and has no block
 pub record FileUnopened (number : ℕ) (f : Filed) (out-after : List ℕ) : Type 0 where

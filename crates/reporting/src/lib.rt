@@ -9,22 +9,21 @@ mod reports;
 
 use registers::Registers;
 pub use replays::BLOCK;
+use report::PastLimit;
 pub use reports::{ROOM, run};
+use streams::Filled;
 
-// After a block: the registers, whether every total is within the limit, how many bytes were read, whether a read failed, and whether one
-// answered that the file has ended.
+// After a block: whether a total passed the limit, how many bytes were read, and why there were no more.
 #[derive(Clone, Copy)]
 pub struct Block {
-    pub registers: Registers,
-    pub fits: bool,
-    pub read: usize,
-    pub failed: bool,
-    pub ended: bool,
+    pub counted: Result<(), PastLimit>,
+    pub filled: Filled,
 }
 
-// After a file's blocks: the last one, and how many there were.
+// After a file's blocks: the registers, the last block, and how many there were.
 #[derive(Clone, Copy)]
 pub struct Replayed {
+    pub registers: Registers,
     pub last: Block,
     pub blocks: u64,
 }

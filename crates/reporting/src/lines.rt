@@ -1,30 +1,31 @@
 // The lines of a file.
-ghost use Rattle.std.specs.Prelude.{◌≡◌, ◌≤◌, length};
+ghost use Rattle.std.specs.Prelude.{◌≡◌, ◌≤◌, is_ok, length};
 ghost use Rattle.line.specs.Text.{TextPut};
-ghost use Rattle.reporting.specs.Blocks.{RunsFit};
 ghost use Rattle.reporting.specs.Endings.{ending_of, ending_text};
 ghost use Rattle.reporting.specs.Reports.{FileGives, FilePut, ROOM, ReportFits};
 ghost use Rattle.report.specs.Totals.{TOTALS};
 
 use crate::files::open;
-use crate::replays::count_file;
+use crate::replays::replay_file;
 use crate::{Block, Ending, Filed, Replayed};
+use report::{PastLimit, Replay};
 use std::fs::Files;
 use std::io::Read;
+use streams::{Filled, Stop};
 
 // How many totals a file has.
 const TOTALS: usize = rows::LINES * rows::COLUMNS;
 
-fn ending_of(fits: bool, failed: bool) -> Ending
-    ensures { result ≡ ending_of fits failed }
+// How a file ended, by its last block: a total that passed the limit comes before a read that failed behind it.
+#[tactic(auto, unfolding(crate::specs::Endings::ending_of))]
+fn ending_of(last: Block) -> Ending
+    ensures { result ≡ ending_of (is_ok last.counted) last.filled.stop }
 {
-    if !fits {
-        return Ending::Refused;
+    match (last.counted, last.filled.stop) {
+        (Err(PastLimit), _) => Ending::Refused,
+        (Ok(()), Stop::Failed) => Ending::Unread,
+        (Ok(()), _) => Ending::Whole,
     }
-    if failed {
-        return Ending::Unread;
-    }
-    Ending::Whole
 }
 
 // Puts the lines of a file that ended so.
@@ -40,30 +41,7 @@ fn put_ending(out: &mut [u8], number: u64, totals: &[i64], ending: Ending) -> us
     }
 }
 
-// Counts an open file and puts its lines.
-fn put_counted<R: Read>(
-    file: &mut R,
-    number: u64,
-    buffer: &mut [u64],
-    words: &mut [u32],
-    links: &mut [u32],
-    presents: &mut [u32],
-    totals: &mut [i64],
-    input: &mut [u8],
-    out: &mut [u8],
-) -> Filed
-    requires { RunsFit buffer.old words.old links.old presents.old totals.old input.old × (length out.old ≡ ROOM) }
-    ensures lines { FileGives number result words.new input.new out.new }
-    ensures room { result.length ≤ length out.new }
-{
-    let replayed = count_file(file, buffer, words, links, presents, totals, input);
-    let last = replayed.last;
-    let ending = ending_of(last.fits, last.failed);
-    let length = put_ending(out, number, totals, ending);
-    Filed { replayed, length }
-}
-
-// The same, with a buffer, an index of the tables and totals of the file's own.
+// Replays an open file and puts its lines, with a buffer, an index of the tables and totals of the file's own.
 fn put_open<R: Read>(
     file: &mut R,
     number: u64,
@@ -79,32 +57,36 @@ fn put_open<R: Read>(
     let mut links = [0u32; 16];
     let mut presents = [0u32; 16];
     let mut totals = [0i64; TOTALS];
-    put_counted(
-        file,
-        number,
-        &mut buffer,
+    let registers = report::start(&mut buffer, words, &mut links, &mut presents, &mut totals);
+    let mut replay = Replay {
+        registers,
+        buffer: &mut buffer,
         words,
-        &mut links,
-        &mut presents,
-        &mut totals,
-        input,
-        out,
-    )
+        links: &mut links,
+        presents: &mut presents,
+        totals: &mut totals,
+    };
+    let replayed = replay_file(file, &mut replay, input);
+    let ending = ending_of(replayed.last);
+    let length = put_ending(out, number, replay.totals, ending);
+    Filed { replayed, length }
 }
 
 // A file that was not opened, with so many bytes of lines: its replay has no block.
 pub(crate) fn unopened(length: usize) -> Filed
     ensures { (result.replayed.blocks ≡ 0) × (result.length ≡ length) }
 {
-    let registers = registers::zero_registers();
-    let last = Block {
-        registers,
-        fits: true,
-        read: 0,
-        failed: true,
-        ended: false,
+    let replayed = Replayed {
+        registers: registers::zero_registers(),
+        last: Block {
+            counted: Ok(()),
+            filled: Filled {
+                length: 0,
+                stop: Stop::Failed,
+            },
+        },
+        blocks: 0,
     };
-    let replayed = Replayed { last, blocks: 0 };
     Filed { replayed, length }
 }
 

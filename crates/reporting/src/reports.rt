@@ -13,7 +13,8 @@ use std::io::Write;
 // Room for the lines of a file: 63 of at most 318 bytes.
 pub const ROOM: usize = 20480;
 
-// After a file: what it gave, and whether its lines could be written.
+// After a file: what it gave, and whether its lines could be written. No Result: a file whose lines could not be written is answered too
+// (`LastFile`).
 #[derive(Clone, Copy)]
 struct Lines {
     file: Filed,
@@ -24,10 +25,7 @@ struct Lines {
 fn put_argument<E: Env>(host: &E, argument: usize, path: &mut [u8]) -> usize
     ensures { result ≤ length path.new }
 {
-    match host.arg(argument, path) {
-        Ok(n) => n,
-        Err(_) => 0,
-    }
+    host.arg(argument, path).unwrap_or(0)
 }
 
 // Writes the lines of the file that an argument names: argument 1 names file 0.
