@@ -64,6 +64,8 @@ fn linear_address(lo: u32, hi: u32, address: u32) -> u32
     base * SEGMENT + address % SEGMENT
 }
 
+// The three bits of CTRL stay functions of their own: one with a place is no plainer, since each is one line under the reference's name.
+
 // CTRL's bit 2.
 fn inv_exc(ctrl: u32) -> bool
     ensures { result ≡ inv_exc ctrl }
@@ -85,19 +87,13 @@ fn we_exc(ctrl: u32) -> bool
     ctrl % 2 == 1
 }
 
-fn bit(flag: bool) -> u32
-    ensures { (result ≡ bit flag) × (result ≤ 1) }
-{
-    flag as u32
-}
-
 // Write error 1, access violation 2, invalid page 4, added up.
 fn exception_value(ctrl: u32, a: Access, f: Entry) -> u32
     ensures { (result ≡ exception_value ctrl a f.valid f.kernel f.we) × (result < 8) }
 {
-    let write_error = bit(a.write & !f.we & we_exc(ctrl));
-    let access_violation = bit(a.user & f.kernel & acc_exc(ctrl));
-    let invalid_page = bit(!f.valid & inv_exc(ctrl));
+    let write_error = u32::from(a.write & !f.we & we_exc(ctrl));
+    let access_violation = u32::from(a.user & f.kernel & acc_exc(ctrl));
+    let invalid_page = u32::from(!f.valid & inv_exc(ctrl));
     write_error + 2 * access_violation + 4 * invalid_page
 }
 
@@ -139,6 +135,7 @@ fn exception_address(r: Registers, a: Access, tested: Option<u32>) -> Option<u32
     tested
 }
 
+// The arguments are those of the definition. A struct of them is no plainer: it would be made and taken apart at each call.
 fn exception_answer(
     r: Registers,
     a: Access,
