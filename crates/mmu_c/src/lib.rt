@@ -111,16 +111,16 @@ fn registers_of(bytes: &[u8]) -> Registers
     ensures registers { result ≡ registers_of bytes.now }
     ensures bytes { AreBytes bytes.now }
 {
-    let mut words = [0u32; 11];
+    let mut words = [0u32; registers::FIELDS];
     wire::decode(bytes, &mut words);
-    registers::from_words(words)
+    Registers::from(words)
 }
 
 fn put_registers(bytes: &mut [u8], r: Registers)
     requires { length bytes.old ≡ REGISTER_BYTES }
     ensures { bytes.new ≡ register_bytes r }
 {
-    let words = registers::to_words(r);
+    let words = <[u32; registers::FIELDS]>::from(r);
     wire::encode(&words, bytes);
 }
 

@@ -299,7 +299,7 @@ fn write_answer(output: &mut impl Write, a: Answer) {
     wire::encode(&[a.first, a.second, a.third, a.fourth], &mut head);
     put(output, &head);
     let r = a.registers;
-    let words = registers::to_words(r);
+    let words = <[u32; registers::FIELDS]>::from(r);
     let mut fields = [0u8; REGISTER_BYTES];
     wire::encode(&words, &mut fields);
     put(output, &fields);
@@ -343,7 +343,7 @@ fn write_tables(output: &mut impl Write, kind: u32, tables: &[u32], bytes: &mut 
 
 // The request that a head of eight words, the registers and a state hold; a kind that is none where the input has ended.
 fn requested(got: bool, w: [u32; 8], fields: [u32; 11], state: State) -> Request {
-    let registers = registers::from_words(fields);
+    let registers = Registers::from(fields);
     Request {
         kind: if got { w[0] } else { LAST_KIND + 1 },
         first: w[1],

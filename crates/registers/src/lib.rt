@@ -53,6 +53,9 @@ pub struct Reply {
     pub registers: Registers,
 }
 
+// How many fields the registers have.
+pub const FIELDS: usize = 11;
+
 // The least number that is too large for each field, by how many bits it has.
 const KSEG_LIMIT: u32 = 1 << 16;
 
@@ -75,7 +78,7 @@ const TEST_LIMIT: u32 = 1 << 1;
 const CAUSE_LIMIT: u32 = 1 << 5;
 
 // The limits in the order of the fields' places.
-const LIMITS: [u64; 11] = [
+const LIMITS: [u64; FIELDS] = [
     KSEG_LIMIT as u64,
     CTRL_LIMIT as u64,
     ENABLE_LIMIT as u64,
@@ -90,30 +93,34 @@ const LIMITS: [u64; 11] = [
 ];
 
 // The fields in the order of their places.
-pub fn to_words(r: Registers) -> [u32; 11]
-    ensures { result ≡ to_words r }
-{
-    [
-        r.kseg, r.ctrl, r.enable, r.kbase_lo, r.kbase_hi, r.context, r.select, r.tlb_hi, r.tlb_lo,
-        r.test, r.cause,
-    ]
+impl From<Registers> for [u32; FIELDS] {
+    ghost from_gives = { λ r words. words ≡ to_words r };
+
+    fn from(r: Registers) -> [u32; FIELDS] {
+        [
+            r.kseg, r.ctrl, r.enable, r.kbase_lo, r.kbase_hi, r.context, r.select, r.tlb_hi,
+            r.tlb_lo, r.test, r.cause,
+        ]
+    }
 }
 
-pub fn from_words(words: [u32; 11]) -> Registers
-    ensures { result ≡ from_words words }
-{
-    Registers {
-        kseg: words[0],
-        ctrl: words[1],
-        enable: words[2],
-        kbase_lo: words[3],
-        kbase_hi: words[4],
-        context: words[5],
-        select: words[6],
-        tlb_hi: words[7],
-        tlb_lo: words[8],
-        test: words[9],
-        cause: words[10],
+impl From<[u32; FIELDS]> for Registers {
+    ghost from_gives = { λ words r. r ≡ from_words words };
+
+    fn from(words: [u32; FIELDS]) -> Registers {
+        Registers {
+            kseg: words[0],
+            ctrl: words[1],
+            enable: words[2],
+            kbase_lo: words[3],
+            kbase_hi: words[4],
+            context: words[5],
+            select: words[6],
+            tlb_hi: words[7],
+            tlb_lo: words[8],
+            test: words[9],
+            cause: words[10],
+        }
     }
 }
 
@@ -122,7 +129,7 @@ pub fn field(r: Registers, place: u32) -> u32
     requires { place < 11 }
     ensures { result ≡ field r place }
 {
-    let fields = to_words(r);
+    let fields = <[u32; FIELDS]>::from(r);
     fields[place as usize]
 }
 
@@ -131,9 +138,9 @@ pub fn put(r: Registers, place: u32, value: u32) -> Registers
     requires { place < 11 }
     ensures { result ≡ put r place value }
 {
-    let mut words = to_words(r);
+    let mut words = <[u32; FIELDS]>::from(r);
     words[place as usize] = value;
-    from_words(words)
+    Registers::from(words)
 }
 
 // The value is within the bits of the field at a place.
@@ -164,7 +171,7 @@ pub fn registers_fit(r: Registers) -> bool
 pub fn zero_registers() -> Registers
     ensures { result ≡ zero_registers }
 {
-    from_words([0; 11])
+    Registers::from([0; FIELDS])
 }
 
 // The first three checks of a call that takes registers, buffer and tables, by whether each fits.

@@ -3,4 +3,4 @@ use Rattle.registers.proofs.field.Goals as goal
 
 pub returns : goal.returns
 unfolding field
-returns c = rw c.to_words-fields.ensures
+returns c = rw c.from-fields.ensures

@@ -4,4 +4,4 @@ use Rattle.registers.proofs.put.Goals as goal
 
 pub returns : goal.returns
 unfolding put
-returns c = c.from_words.ensures ∙ rw c.to_words-words.ensures
+returns c = c.from.ensures ∙ rw c.from-words.ensures

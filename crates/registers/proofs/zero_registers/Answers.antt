@@ -3,4 +3,4 @@ use Rattle.registers.proofs.zero_registers.Goals as goal
 
 pub returns : goal.returns
 unfolding zero_registers from_words
-returns c = c.from_words.ensures
+returns c = c.from.ensures
