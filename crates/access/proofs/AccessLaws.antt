@@ -6,6 +6,7 @@ use native.Mathlib.Omega.{arith}
 use lib.Dec.{eqb, lit<}
 use borrow.Author.Tests.{eq-eqb, ne_eqb, leb-true}
 use mir.Val.{bool_byte}
+use Rattle.std.specs.Prelude.{Option, Some, None}
 use Rattle.runs.proofs.Bits.{bit_byte, bits-low}
 use Rattle.runs.proofs.Bools.{both}
 use Rattle.entry.specs.Address.{vpn_of, offset_of, slot_of}
@@ -22,8 +23,6 @@ use Rattle.access.specs.Segments.{in_linear_segment, linear_address}
 use Rattle.access.specs.Exceptions.{inv_exc, MISS}
 use Rattle.access.specs.Translation.{page_address, is_set, no_exception, with_cause, exception_address, interrupts, exception_answer}
 use Rattle.access.specs.Translation.{hit_value, on_hit, by_hit_count, found_set, page_mapped, translate}
-use Rattle.access.specs.declared.Physical.{Physical}
-use Rattle.access.specs.declared.Physical.TheVariants.{Address, None}
 use Rattle.access.specs.declared.Translation.{Translation}
 
 pub context-lt : (r : Registers) → registers_fit r ≡ true → r.context < 64
@@ -61,8 +60,8 @@ pub cause-is : (r : Registers) (a : Access) (slot value vpn : ℕ) → vpn ≡ v
 unfolding with_cause put to_words from_words
 cause-is r a slot value vpn q = rw (q, bit_byte a.write)
 
-module _ (r : Registers) (a : Access) (tested : Physical) where
-  pub address-off : r.enable ≡ 0 → Address a.address ≡ exception_address r a tested
+module _ (r : Registers) (a : Access) (tested : Option ℕ) where
+  pub address-off : r.enable ≡ 0 → Some a.address ≡ exception_address r a tested
   unfolding exception_address
   address-off h = rw (is-off r.enable h)
 
@@ -74,7 +73,7 @@ module _ (r : Registers) (a : Access) (tested : Physical) where
   unfolding exception_address
   address-tested h q = rw (is-on r.enable h, is-on r.test q)
 
-pub answer-is : (r : Registers) (a : Access) (slot value : ℕ) (tested physical : Physical) (after : Registers)
+pub answer-is : (r : Registers) (a : Access) (slot value : ℕ) (tested physical : Option ℕ) (after : Registers)
     → physical ≡ exception_address r a tested → after ≡ with_cause r a slot value
     → record {
       physical = physical;
@@ -100,7 +99,7 @@ page-sum pfn address = rw (bits-low 12 address)
 
 module _ (r : Registers) (a : Access) (slot : ℕ) (f : Entry) (value : ℕ) (x : Translation) (vq : value ≡ hit_value r a f) where
   pub hit-exception : (address : ℕ) → (value ≡ 0 → ⊥) → address ≡ page_address f.pfn a.address
-      → x ≡ exception_answer r a slot value (Address address) → x ≡ on_hit r a slot f
+      → x ≡ exception_answer r a slot value (Some address) → x ≡ on_hit r a slot f
   unfolding on_hit
   hit-exception address z e q = q ∙ rw (e, vq) (sym (rw (ne_eqb (hit_value r a f) 0 (λ y. z (vq ∙ y)))))
 

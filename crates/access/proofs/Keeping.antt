@@ -5,6 +5,7 @@ use mathlib.Core.Bool.{Bool, true, false, cond, ◌||◌}
 use native.Mathlib.Omega.{arith}
 use lib.Dec.{eqb, lit<}
 use borrow.Author.Tests.{lt-ltb}
+use Rattle.std.specs.Prelude.{Option, None}
 use Rattle.runs.specs.Bits.{bit}
 use Rattle.runs.proofs.Bits.{bit_le}
 use Rattle.runs.proofs.Counts.{lowest-lt}
@@ -21,8 +22,6 @@ use Rattle.access.specs.Segments.{in_linear_segment}
 use Rattle.access.specs.Exceptions.{inv_exc, exception_value, write_error, access_violation, invalid_page}
 use Rattle.access.specs.Translation.{Accepted, is_set, no_exception, with_cause, exception_answer, hit_value, on_hit, by_hit_count, found_set}
 use Rattle.access.specs.Translation.{page_mapped, translate}
-use Rattle.access.specs.declared.Physical.{Physical}
-use Rattle.access.specs.declared.Physical.TheVariants.{None}
 use Rattle.access.specs.declared.Translation.{Translation}
 use Rattle.access.proofs.AccessLaws.{context-lt, draw-lt}
 
@@ -72,7 +71,7 @@ module _ (r : Registers) (a : Access) (h : registers_fit r ≡ true) where
   unfolding no_exception
   none-leaves address = h
 
-  exception-leaves : (slot value : ℕ) (tested : Physical) → slot < 64 → value < 16 → Leaves (exception_answer r a slot value tested)
+  exception-leaves : (slot value : ℕ) (tested : Option ℕ) → slot < 64 → value < 16 → Leaves (exception_answer r a slot value tested)
   unfolding exception_answer
   exception-leaves slot value tested l v = cause-fits r a slot value h l v
 

@@ -3,13 +3,13 @@ use Prim.Native.Nat.{ℕ, zero, suc}
 use mathlib.Core.Path.{◌≡◌, refl, sym, ap, ◌∙◌}
 use mathlib.Core.Bool.{Bool, true, false, cond, ◌||◌, true≢false}
 use lib.Dec.{eqb}
+use Rattle.std.specs.Prelude.{Option}
 use Rattle.entry.specs.declared.Entry.{Entry}
 use Rattle.registers.specs.declared.Access.{Access}
 use Rattle.registers.specs.declared.Registers.{Registers}
 use Rattle.slots.specs.Buffer.{Buffer}
 use Rattle.access.specs.Segments.{in_linear_segment}
 use Rattle.access.specs.Translation.{is_set, no_exception, exception_answer, hit_value, on_hit, by_hit_count, page_mapped, translate}
-use Rattle.access.specs.declared.Physical.{Physical}
 use Rattle.access.specs.declared.Translation.{Translation}
 
 -- the answer of an address without an exception
@@ -28,7 +28,7 @@ module _ (r : Registers) (a : Access) where
   none_told : (address : ℕ) → Told (no_exception r address)
   none_told address h = record { address = address; answer-is = refl }
 
-  exception-told : (slot value : ℕ) (tested : Physical) → Told (exception_answer r a slot value tested)
+  exception-told : (slot value : ℕ) (tested : Option ℕ) → Told (exception_answer r a slot value tested)
   unfolding exception_answer
   exception-told slot value tested h = absurd (true≢false h)
 

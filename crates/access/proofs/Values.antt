@@ -3,13 +3,13 @@ use Prim.Native.Nat.{ℕ, zero, suc, ◌≤◌}
 use mathlib.Core.Bool.{Bool, true, false, cond, ◌||◌}
 use native.Mathlib.Omega.{arith}
 use lib.Dec.{eqb}
+use Rattle.std.specs.Prelude.{Option}
 use Rattle.entry.specs.declared.Entry.{Entry}
 use Rattle.registers.specs.declared.Access.{Access}
 use Rattle.registers.specs.declared.Registers.{Registers}
 use Rattle.slots.specs.Buffer.{Buffer}
 use Rattle.access.specs.Segments.{in_linear_segment}
 use Rattle.access.specs.Translation.{is_set, no_exception, exception_answer, hit_value, on_hit, by_hit_count, page_mapped, translate}
-use Rattle.access.specs.declared.Physical.{Physical}
 use Rattle.access.specs.declared.Translation.{Translation}
 use Rattle.access.proofs.Keeping.{value-lt}
 
@@ -25,7 +25,7 @@ module _ (r : Registers) (a : Access) where
   unfolding no_exception
   none-small address = omega arith
 
-  exception-small : (slot value : ℕ) (tested : Physical) → value ≤ 8 → Small (exception_answer r a slot value tested)
+  exception-small : (slot value : ℕ) (tested : Option ℕ) → value ≤ 8 → Small (exception_answer r a slot value tested)
   unfolding exception_answer
   exception-small slot value tested l = l
 

@@ -1,5 +1,5 @@
 -- One raw access, once it is accepted: its four answers and the registers that it leaves.
-use Rattle.std.specs.Prelude.{ℕ, zero, suc, ◌+◌, ◌*◌, ◌^◌, ◌≡◌, Bool, true, false, cond, not, ◌&&◌, ◌||◌, eqb}
+use Rattle.std.specs.Prelude.{ℕ, zero, suc, ◌+◌, ◌*◌, ◌^◌, ◌≡◌, Bool, true, false, cond, not, ◌&&◌, ◌||◌, eqb, Option, Some, None}
 use Rattle.runs.specs.Bits.{bit}
 use Rattle.entry.specs.Address.{vpn_of, offset_of, slot_of}
 use Rattle.entry.specs.declared.Entry.{Entry}
@@ -11,8 +11,6 @@ use Rattle.slots.specs.Buffer.{Buffer, buffer_fits}
 use Rattle.tlb.specs.Search.{fields_at, hit_count, hit_set}
 use Rattle.access.specs.Segments.{in_linear_segment, linear_address}
 use Rattle.access.specs.Exceptions.{inv_exc, exception_value, MISS}
-use Rattle.access.specs.declared.Physical.{Physical}
-use Rattle.access.specs.declared.Physical.TheVariants.{Address, None}
 use Rattle.access.specs.declared.Translation.{Translation}
 
 -- what is asked of an access before it is tried
@@ -31,7 +29,7 @@ is_set register = not (eqb register 0)
 
 -- no exception: no register changes
 unfoldable pub no_exception : Registers → (address : ℕ) → Translation
-no_exception r address = record { physical = Address address; interrupt = false; exception = false; value = 0; registers = r }
+no_exception r address = record { physical = Some address; interrupt = false; exception = false; value = 0; registers = r }
 
 -- cause updated: vpn, context page_id, the four exception bits and the write bit; and the selected slot
 unfoldable pub with_cause : Registers → Access → (slot value : ℕ) → Registers
@@ -39,14 +37,14 @@ with_cause r a slot value =
     put (put (put r SELECT slot) TLB_HI (vpn_of a.address * 64 + r.context)) CAUSE (value * 2 + bit a.write)
 
 -- the table's last column on an exception: with enable off the virtual address; with enable on none, but in test mode what `tested` says
-unfoldable pub exception_address : Registers → Access → (tested : Physical) → Physical
-exception_address r a tested = cond (is_set r.enable) (cond (is_set r.test) tested None) (Address a.address)
+unfoldable pub exception_address : Registers → Access → (tested : Option ℕ) → Option ℕ
+exception_address r a tested = cond (is_set r.enable) (cond (is_set r.test) tested None) (Some a.address)
 
 -- the table's third column on an exception: only with enable on and test off
 unfoldable pub interrupts : Registers → Bool
 interrupts r = is_set r.enable && not (is_set r.test)
 
-unfoldable pub exception_answer : Registers → Access → (slot value : ℕ) (tested : Physical) → Translation
+unfoldable pub exception_answer : Registers → Access → (slot value : ℕ) (tested : Option ℕ) → Translation
 exception_answer r a slot value tested = record {
   physical = exception_address r a tested;
   interrupt = interrupts r;
@@ -63,7 +61,7 @@ unfoldable pub on_hit : Registers → Access → (slot : ℕ) → Entry → Tran
 on_hit r a slot f =
     cond (eqb (hit_value r a f) 0)
     (no_exception r (cond (is_set r.enable) (page_address f.pfn a.address) a.address))
-    (exception_answer r a slot (hit_value r a f) (Address (page_address f.pfn a.address)))
+    (exception_answer r a slot (hit_value r a f) (Some (page_address f.pfn a.address)))
 
 -- the selected slot becomes 16 × draw + location on a miss, the hitting slot on other exceptions, and stays on multiple hits (course
 -- rule); multiple hits give a bus fault, an exception with all four bits clear

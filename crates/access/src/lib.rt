@@ -19,17 +19,10 @@ pub const MISS: u32 = 8;
 // How many bytes a segment has: those of address bits 27 to 0.
 const SEGMENT: u32 = 1 << 28;
 
-// A physical address, or none.
-#[derive(Clone, Copy)]
-pub enum Physical {
-    Address(u32),
-    None,
-}
-
-// The four answers of a raw access, and the registers that it leaves.
+// The four answers of a raw access (the physical address, if there is one), and the registers that it leaves.
 #[derive(Clone, Copy)]
 pub struct Translation {
-    pub physical: Physical,
+    pub physical: Option<u32>,
     pub interrupt: bool,
     pub exception: bool,
     pub value: u32,
@@ -111,7 +104,7 @@ fn no_exception(r: Registers, address: u32) -> Translation
     ensures { result ≡ no_exception r address }
 {
     Translation {
-        physical: Physical::Address(address),
+        physical: Some(address),
         interrupt: false,
         exception: false,
         value: 0,
@@ -133,19 +126,19 @@ fn with_cause(r: Registers, a: Access, slot: u32, value: u32) -> Registers
 }
 
 // The address at an exception; `tested` is test mode's.
-fn exception_address(r: Registers, a: Access, tested: Physical) -> Physical
+fn exception_address(r: Registers, a: Access, tested: Option<u32>) -> Option<u32>
     ensures { result ≡ exception_address r a tested }
 {
     if r.enable == 0 {
-        return Physical::Address(a.address);
+        return Some(a.address);
     }
     if r.test == 0 {
-        return Physical::None;
+        return None;
     }
     tested
 }
 
-fn exception_answer(r: Registers, a: Access, slot: u32, value: u32, tested: Physical) -> Translation
+fn exception_answer(r: Registers, a: Access, slot: u32, value: u32, tested: Option<u32>) -> Translation
     requires { (r.context < 64) × (value < 16) }
     ensures { result ≡ exception_answer r a slot value tested }
 {
@@ -168,7 +161,7 @@ fn on_hit(r: Registers, a: Access, slot: u32, f: Entry) -> Translation
     let value = exception_value(r.ctrl, a, f);
     let address = f.pfn * entry::PAGE + a.address % entry::PAGE;
     if value != 0 {
-        return exception_answer(r, a, slot, value, Physical::Address(address));
+        return exception_answer(r, a, slot, value, Some(address));
     }
     if r.enable == 0 {
         return no_exception(r, a.address);
@@ -186,7 +179,7 @@ fn page_mapped(r: Registers, buffer: &[u64], a: Access) -> Translation
     let hits = found.count;
     if hits == 0 {
         let drawn = entry::slot_of(a.draw, vpn);
-        return exception_answer(r, a, drawn, MISS, Physical::None);
+        return exception_answer(r, a, drawn, MISS, None);
     }
     if hits == 1 {
         let slot = entry::slot_of(found.set, vpn);
@@ -194,7 +187,7 @@ fn page_mapped(r: Registers, buffer: &[u64], a: Access) -> Translation
         let f = entry::unpack(e);
         return on_hit(r, a, slot, f);
     }
-    exception_answer(r, a, r.select, 0, Physical::None)
+    exception_answer(r, a, r.select, 0, None)
 }
 
 // The raw access in document 01's three steps.

@@ -1,12 +1,11 @@
 -- Starts and register writes, and the bits of each field.
-use Rattle.std.specs.Prelude.{◌+◌, ◌*◌, List, [], ◌∷◌, true, false, set, replicate}
+use Rattle.std.specs.Prelude.{◌+◌, ◌*◌, List, [], ◌∷◌, true, false, set, replicate, None}
 use Rattle.registers.specs.Fields.{put, registers_fit, zero_registers, KSEG, CTRL, ENABLE, KBASE_LO, KBASE_HI, CONTEXT, SELECT, TLB_HI}
 use Rattle.registers.specs.Fields.{TLB_LO, TEST, CAUSE}
 use Rattle.registers.specs.Replies.{refused, done}
 use Rattle.registers.specs.declared.Registers.{Registers}
 use Rattle.slots.specs.Buffer.{Buffer, slot_at}
 use Rattle.slots.specs.Buffer.Buffer.{Wide}
-use Rattle.access.specs.declared.Physical.TheVariants.{None}
 use Rattle.mmu.specs.RawAccess.{raw_reply}
 use Rattle.control.specs.Starting.{start_reply, started_buffer}
 use Rattle.control.specs.Writing.{write_reply, buffer_after_write}

@@ -1,9 +1,8 @@
 -- The conditions of an exception and of a hit: the case beside each that differs in it alone.
-use Rattle.std.specs.Prelude.{◌+◌, ◌*◌, true, false, List, [], ◌∷◌, set, replicate}
+use Rattle.std.specs.Prelude.{◌+◌, ◌*◌, true, false, List, [], ◌∷◌, set, replicate, Some, None}
 use Rattle.entry.specs.Entry.{pack}
 use Rattle.slots.specs.Buffer.{Buffer, slot_at, with_slot}
 use Rattle.slots.specs.Buffer.Buffer.{Wide}
-use Rattle.access.specs.declared.Physical.TheVariants.{Address, None}
 use Rattle.mmu.specs.RawAccess.{raw_reply}
 use Rattle.examples.specs.Claims.{Example, ◌gives◌}
 use Rattle.examples.specs.Scene.{enabled, enabled_after, started, user, supervisor, replied, entry_with, one_entry}
@@ -15,11 +14,11 @@ exceptions =
     (raw_reply (enabled 5 7) (one_entry true false false) (user true page_byte 0)
     gives replied None true true 1 (enabled_after 5 7 18 page_vpn 3))
     ∷ (raw_reply (enabled 5 7) (one_entry true false false) (user false page_byte 0)
-    gives replied (Address frame_byte) false false 0 (enabled 5 7))
+    gives replied (Some frame_byte) false false 0 (enabled 5 7))
     ∷ (raw_reply (enabled 5 7) (one_entry true false true) (user true page_byte 0)
-    gives replied (Address frame_byte) false false 0 (enabled 5 7))
+    gives replied (Some frame_byte) false false 0 (enabled 5 7))
     ∷ (raw_reply (enabled 5 6) (one_entry true false false) (user true page_byte 0)
-    gives replied (Address frame_byte) false false 0 (enabled 5 6))
+    gives replied (Some frame_byte) false false 0 (enabled 5 6))
     -- we_exc alone is on: a kernel page raises the write error alone
     ∷ (raw_reply (enabled 5 1) (one_entry true true false) (user true page_byte 0)
     gives replied None true true 1 (enabled_after 5 1 18 page_vpn 3))
@@ -27,9 +26,9 @@ exceptions =
     ∷ (raw_reply (enabled 5 7) (one_entry true true true) (user true page_byte 0)
     gives replied None true true 2 (enabled_after 5 7 18 page_vpn 5))
     ∷ (raw_reply (enabled 5 7) (one_entry true true true) (supervisor true page_byte 0)
-    gives replied (Address frame_byte) false false 0 (enabled 5 7))
+    gives replied (Some frame_byte) false false 0 (enabled 5 7))
     ∷ (raw_reply (enabled 5 5) (one_entry true true true) (user true page_byte 0)
-    gives replied (Address frame_byte) false false 0 (enabled 5 5))
+    gives replied (Some frame_byte) false false 0 (enabled 5 5))
     -- invalid page alone
     ∷ (raw_reply (enabled 5 4) (one_entry false true false) (user true page_byte 0)
     gives replied None true true 4 (enabled_after 5 4 18 page_vpn 9))
@@ -59,7 +58,7 @@ hits =
     ∷ (raw_reply (enabled 63 3) started (user false (18 * 8192) 0) gives replied None true true 8 (enabled_after 63 3 2 18 16))
     ∷ (raw_reply (enabled 0 4) started (user false (18 * 8192) 0) gives replied None true true 8 (enabled_after 0 4 2 18 16))
     -- bits 44 and up are ignored on reading and written as zero; no other slot is touched
-    ∷ (raw_reply (enabled 5 7) high_bits (user true page_byte 0) gives replied (Address frame_byte) false false 0 (enabled 5 7))
+    ∷ (raw_reply (enabled 5 7) high_bits (user true page_byte 0) gives replied (Some frame_byte) false false 0 (enabled 5 7))
     ∷ (slot_at high_bits 18 gives entry_with true false true)
     ∷ (with_slot (Wide (1 ∷ 2 ∷ [])) 1 0x100000000007 gives Wide (1 ∷ 7 ∷ []))
     ∷ []

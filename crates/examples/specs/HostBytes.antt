@@ -1,12 +1,11 @@
 -- What a C host hands over and reads, byte by byte and bit by bit: registers, a slot, table words, answers, calls from a start on, refusals
 -- of lengths, and a run.
-use Rattle.std.specs.Prelude.{ℕ, zero, suc, true, false, List, [], ◌∷◌, ◌++◌, take, drop, replicate}
+use Rattle.std.specs.Prelude.{ℕ, zero, suc, true, false, List, [], ◌∷◌, ◌++◌, take, drop, replicate, Some, None}
 use Rattle.registers.specs.declared.Outcome.TheVariants.{At, Fault, Done, Refused}
 use Rattle.registers.specs.declared.Registers.{Registers}
 use Rattle.slots.specs.Buffer.{slot_at}
 use Rattle.slots.specs.Buffer.Buffer.{Wide}
 use Rattle.entry.specs.Entry.{unpack}
-use Rattle.access.specs.declared.Physical.TheVariants.{Address, None}
 use Rattle.table_bytes.specs.TableBytes.{words_of}
 use Rattle.mmu_c.specs.Runs.{registers_of, register_bytes, buffer_of, buffer_bytes, length_taken}
 use Rattle.mmu_c.specs.Answers.{raw_answer, outcome_answer}
@@ -114,8 +113,8 @@ answers =
     ∷ (outcome_answer (Fault 0x0) 0 gives 0x0040000000000000)
     ∷ (outcome_answer (Done 64) 0 gives 0x0000000000000040)
     ∷ (outcome_answer (Refused 5) 0 gives 0x0500000000000000)
-    ∷ (raw_answer (Address 0x00246ABC) false false 0 gives 0x0010000000246ABC)
-    ∷ (raw_answer (Address 0x00246ABC) false true 1 gives 0x0050000100246ABC)
+    ∷ (raw_answer (Some 0x00246ABC) false false 0 gives 0x0010000000246ABC)
+    ∷ (raw_answer (Some 0x00246ABC) false true 1 gives 0x0050000100246ABC)
     ∷ (raw_answer None true true 8 gives 0x0060000800000000)
     ∷ []
 

@@ -1,12 +1,11 @@
 -- Document 01's thirteen marked examples.
-use Rattle.std.specs.Prelude.{ℕ, ◌+◌, ◌*◌, true, false, List, [], ◌∷◌}
+use Rattle.std.specs.Prelude.{ℕ, ◌+◌, ◌*◌, true, false, List, [], ◌∷◌, Some, None}
 use Rattle.entry.specs.Address.{slot_of}
 use Rattle.registers.specs.Fields.{KSEG, ENABLE, KBASE_HI, CONTEXT, SELECT, TLB_HI, TLB_LO, CAUSE}
 use Rattle.registers.specs.declared.Registers.{Registers}
 use Rattle.page_table.specs.Walk.{walk_page}
 use Rattle.page_table.specs.declared.Walk.TheVariants.{Leaf}
 use Rattle.slots.specs.Buffer.{slot_at}
-use Rattle.access.specs.declared.Physical.TheVariants.{Address, None}
 use Rattle.control.specs.Writing.{buffer_after_write}
 use Rattle.mmu.specs.RawAccess.{raw_reply}
 use Rattle.mmu.specs.ServedAccess.{served_buffer}
@@ -39,8 +38,8 @@ marked =
     ∷ (walk_page good 5 1 gives Leaf (record { global = false; word = 0xD0000123; index = 1025 }))
     ∷ (slot_at (served_buffer (machine (enabled 5 7) started good) reading) 33 gives 0x02A80123)
     -- 6, 7: linear segments
-    ∷ (raw_reply linear started (supervisor false 0xC0001234 0) gives replied (Address 0x70001234) false false 0 linear)
-    ∷ (raw_reply linear started (supervisor false 0xB0000010 0) gives replied (Address 0xB0000010) false false 0 linear)
+    ∷ (raw_reply linear started (supervisor false 0xC0001234 0) gives replied (Some 0x70001234) false false 0 linear)
+    ∷ (raw_reply linear started (supervisor false 0xB0000010 0) gives replied (Some 0xB0000010) false false 0 linear)
     -- 8: the same address in user mode misses; vpn 60000 hex stands in TLB_HI
     ∷ (raw_reply linear started (user false 0xC0001234 0)
     gives replied None true true 8
@@ -56,5 +55,5 @@ marked =
     ∷ (raw_reply (enabled 5 7) two_entries (user true page_byte 2) gives replied None true true 0 (enabled_after 5 7 0 page_vpn 1))
     -- 13: the entry stored at slot 18 answers for vpn 12342 hex
     ∷ (raw_reply selected (buffer_after_write selected started TLB_LO page_low) (user true page_byte 0)
-    gives replied (Address frame_byte) false false 0 selected)
+    gives replied (Some frame_byte) false false 0 selected)
     ∷ []

@@ -1,11 +1,10 @@
 -- Register reads: TLB_HI and TLB_LO give the entry at SELECT, every other number its own field.
-use Rattle.std.specs.Prelude.{◌+◌, ◌*◌, List, [], ◌∷◌, true, false, replicate}
+use Rattle.std.specs.Prelude.{◌+◌, ◌*◌, List, [], ◌∷◌, true, false, replicate, None}
 use Rattle.registers.specs.Fields.{put, KSEG, CTRL, ENABLE, KBASE_LO, KBASE_HI, CONTEXT, SELECT, TLB_HI, TLB_LO, TEST}
 use Rattle.registers.specs.Replies.{refused, done}
 use Rattle.registers.specs.declared.Registers.{Registers}
 use Rattle.slots.specs.Buffer.{Buffer, slot_at}
 use Rattle.slots.specs.Buffer.Buffer.{Wide}
-use Rattle.access.specs.declared.Physical.TheVariants.{None}
 use Rattle.mmu.specs.RawAccess.{raw_reply}
 use Rattle.control.specs.Writing.{buffer_after_write}
 use Rattle.control.specs.Reading.{read_reply}

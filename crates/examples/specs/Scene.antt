@@ -1,5 +1,5 @@
 -- The registers, buffers, accesses and answers that the examples are written with.
-use Rattle.std.specs.Prelude.{ℕ, ◌+◌, ◌*◌, Bool, true, false, List, [], ◌∷◌, replicate}
+use Rattle.std.specs.Prelude.{ℕ, ◌+◌, ◌*◌, Bool, true, false, List, [], ◌∷◌, replicate, Option}
 use Rattle.entry.specs.Entry.{pack}
 use Rattle.registers.specs.Fields.{put, zero_registers, CTRL, ENABLE, CONTEXT, SELECT, TLB_HI, CAUSE}
 use Rattle.registers.specs.declared.Access.{Access}
@@ -7,7 +7,6 @@ use Rattle.registers.specs.declared.Registers.{Registers}
 use Rattle.slots.specs.Buffer.{Buffer, with_slot}
 use Rattle.slots.specs.Buffer.Buffer.{Wide}
 use Rattle.slots.specs.Start.{start_buffer}
-use Rattle.access.specs.declared.Physical.{Physical}
 use Rattle.mmu.specs.declared.RawReply.{RawReply}
 use Rattle.mmu.specs.declared.RawReply.TheVariants.{Answered}
 
@@ -46,7 +45,7 @@ unfoldable pub supervisor : (write : Bool) (address draw : ℕ) → Access
 supervisor write address draw = record { address = address; user = false; write = write; draw = draw }
 
 -- a reply that is no refusal
-unfoldable pub replied : (physical : Physical) (interrupt exception : Bool) (value : ℕ) (after : Registers) → RawReply
+unfoldable pub replied : (physical : Option ℕ) (interrupt exception : Bool) (value : ℕ) (after : Registers) → RawReply
 replied physical interrupt exception value after =
     Answered (record { physical = physical; interrupt = interrupt; exception = exception; value = value; registers = after })
 

@@ -3,6 +3,7 @@ use Prim.Native.Nat.{ℕ, zero, suc, ◌+◌, ◌-◌, ◌*◌, ◌^◌, ◌<◌
 use mathlib.Core.Bool.{Bool, true, false, cond, ◌||◌}
 use native.Mathlib.Omega.{arith}
 use lib.Dec.{eqb, ltb}
+use Rattle.std.specs.Prelude.{Option, Some, None}
 use Rattle.runs.specs.Bits.{bits}
 use Rattle.runs.proofs.Bits.{bits-wide}
 use Rattle.entry.specs.Address.{vpn_of, offset_of, slot_of}
@@ -20,14 +21,12 @@ use Rattle.access.specs.Segments.{in_linear_segment, nibble, segment_of, segment
 use Rattle.access.specs.Exceptions.{inv_exc}
 use Rattle.access.specs.Translation.{is_set, page_address, no_exception, exception_address, exception_answer, hit_value, on_hit, by_hit_count}
 use Rattle.access.specs.Translation.{found_set, page_mapped, translate}
-use Rattle.access.specs.declared.Physical.{Physical}
-use Rattle.access.specs.declared.Physical.TheVariants.{Address, None}
 use Rattle.store.specs.Machine.{Machine}
 use Rattle.mmu.specs.ServedAccess.{outcome_of, tried_reply, missed, after_miss, first_try, walk_for, access_reply}
 
 -- an address has 32 bits
-unfoldable pub Within32 : Physical → Type 0
-Within32 (Address address) = address < 4294967296
+unfoldable pub Within32 : Option ℕ → Type 0
+Within32 (Some address) = address < 4294967296
 Within32 None = Unit {0}
 
 nibble-lt : (n word : ℕ) → nibble n word < 16
@@ -47,16 +46,16 @@ unfolding page_address offset_of
 page-lt pfn address l = omega arith
 
 module _ (r : Registers) (b : Buffer) (a : Access) (al : a.address < 4294967296) where
-  exception-within : (tested : Physical) → Within32 tested → Within32 (exception_address r a tested)
+  exception-within : (tested : Option ℕ) → Within32 tested → Within32 (exception_address r a tested)
   unfolding exception_address Within32
   exception-within tested w = by_mode (is_set r.enable) (is_set r.test)
     where
-      by_mode : (on test : Bool) → Within32 (cond on (cond test tested None) (Address a.address))
+      by_mode : (on test : Bool) → Within32 (cond on (cond test tested None) (Some a.address))
       by_mode true true = w
       by_mode true false = tt
       by_mode false test = al
 
-  virtual-or : (address : ℕ) → address < 4294967296 → Within32 (Address (cond (is_set r.enable) address a.address))
+  virtual-or : (address : ℕ) → address < 4294967296 → Within32 (Some (cond (is_set r.enable) address a.address))
   unfolding Within32
   virtual-or address l = by_mode (is_set r.enable)
     where
@@ -72,9 +71,9 @@ module _ (r : Registers) (b : Buffer) (a : Access) (al : a.address < 4294967296)
       page = page_address f.pfn a.address
 
       by_value : (t : Bool)
-          → Within32 (cond t (no_exception r (cond (is_set r.enable) page a.address)) (exception_answer r a slot (hit_value r a f) (Address page))).physical
+          → Within32 (cond t (no_exception r (cond (is_set r.enable) page a.address)) (exception_answer r a slot (hit_value r a f) (Some page))).physical
       by_value true = virtual-or page (page-lt f.pfn a.address l)
-      by_value false = exception-within (Address page) (page-lt f.pfn a.address l)
+      by_value false = exception-within (Some page) (page-lt f.pfn a.address l)
 
   count-within : (hits set : ℕ) (f : Entry) → f.pfn < 524288 → Within32 (by_hit_count hits r a set f).physical
   unfolding by_hit_count exception_answer Within32
@@ -109,9 +108,9 @@ AddressWithin (Fault value) = Unit {0}
 AddressWithin (Done emptied) = ⊥
 AddressWithin (Refused number) = ⊥
 
-outcome-within : (p : Physical) (value : ℕ) → Within32 p → AddressWithin (outcome_of p value)
+outcome-within : (p : Option ℕ) (value : ℕ) → Within32 p → AddressWithin (outcome_of p value)
 unfolding Within32 AddressWithin outcome_of
-outcome-within (Address address) value w = w
+outcome-within (Some address) value w = w
 outcome-within None value w = tt
 
 module _ (m : Machine) (a : Access) (al : a.address < 4294967296) where

@@ -6,6 +6,7 @@ use mathlib.Core.List.{List}
 use native.Mathlib.Omega.{arith}
 use lib.Dec.{eqb}
 use borrow.Author.Tests.{eq-eqb, ne_eqb, eqb-true, ltb-true, lt-ltb}
+use Rattle.std.specs.Prelude.{Option, Some, None}
 use Rattle.runs.proofs.Bools.{clash}
 use Rattle.runs.proofs.Counts.{count-le}
 use Rattle.runs.specs.Bits.{bits}
@@ -17,8 +18,6 @@ use Rattle.registers.specs.declared.Outcome.TheVariants.{At, Fault, Done, Refuse
 use Rattle.registers.specs.declared.Registers.{Registers}
 use Rattle.registers.specs.declared.Reply.{Reply}
 use Rattle.access.specs.Translation.{translate}
-use Rattle.access.specs.declared.Physical.{Physical}
-use Rattle.access.specs.declared.Physical.TheVariants.{Address, None}
 use Rattle.access.specs.declared.Translation.{Translation}
 use Rattle.store.specs.Machine.{Machine}
 use Rattle.store.specs.Rewrite.{Put}
@@ -195,8 +194,8 @@ starts-read registers buffer answer registers-after buffer-after g =
     rw g.answer-is (refusal-read (start_refusal registers buffer) (start-lt registers buffer))
 
 module _ (t : Translation) where
-  raw_at : (address : ℕ) → t.physical ≡ Address address → address < 4294967296 → t.value < 65536
-      → RawRead t (raw_answer (Address address) t.interrupt t.exception t.value)
+  raw_at : (address : ℕ) → t.physical ≡ Some address → address < 4294967296 → t.value < 65536
+      → RawRead t (raw_answer (Some address) t.interrupt t.exception t.value)
   unfolding raw_answer LocatedRead
   raw_at address e l v =
       let r = access-read address t.value 0 true t.interrupt t.exception l v (omega arith) in
@@ -226,8 +225,8 @@ located-read : (t : Translation) → Within32 t.physical → t.value < 65536 →
 unfolding translation_answer Within32
 located-read t w v = by-physical t.physical refl w
   where
-    by-physical : (p : Physical) → t.physical ≡ p → Within32 p → RawRead t (raw_answer p t.interrupt t.exception t.value)
-    by-physical (Address address) e l = raw_at t address e l v
+    by-physical : (p : Option ℕ) → t.physical ≡ p → Within32 p → RawRead t (raw_answer p t.interrupt t.exception t.value)
+    by-physical (Some address) e l = raw_at t address e l v
     by-physical None e l = raw-none t e v
 
 pub raw-accesses-read : RawAccessesRead

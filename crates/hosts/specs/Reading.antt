@@ -1,11 +1,9 @@
 -- What a host reads off the answer of each call, whatever its outcome.
-use Rattle.std.specs.Prelude.{ℕ, ◌^◌, ◌<◌, ◌≡◌, true, false, List}
+use Rattle.std.specs.Prelude.{ℕ, ◌^◌, ◌<◌, ◌≡◌, true, false, List, Option, Some, None}
 use Rattle.runs.specs.Bits.{bits, flag}
 use Rattle.registers.specs.declared.Access.{Access}
 use Rattle.registers.specs.declared.Outcome.{Outcome}
 use Rattle.registers.specs.declared.Outcome.TheVariants.{At, Fault, Done, Refused}
-use Rattle.access.specs.declared.Physical.{Physical}
-use Rattle.access.specs.declared.Physical.TheVariants.{Address, None}
 use Rattle.access.specs.declared.Translation.{Translation}
 use Rattle.mmu_c.specs.RawAccess.{raw_refusal, translation, RawAccessGives}
 use Rattle.mmu_c.specs.Start.{start_refusal, StartGives}
@@ -55,8 +53,8 @@ StartsRead = (registers buffer : List ℕ) (answer : ℕ) (registers-after buffe
     → StartGives registers buffer answer registers-after buffer-after → RefusalRead answer (start_refusal registers buffer)
 
 -- where there is an address, and which
-unfoldable pub LocatedRead : Physical → (answer : ℕ) → Type 0
-LocatedRead (Address address) answer = (flag 52 answer ≡ true) × (bits 31 0 answer ≡ address)
+unfoldable pub LocatedRead : Option ℕ → (answer : ℕ) → Type 0
+LocatedRead (Some address) answer = (flag 52 answer ≡ true) × (bits 31 0 answer ≡ address)
 LocatedRead None answer = (flag 52 answer ≡ false) × (bits 31 0 answer ≡ 0)
 
 -- a raw access's four answers, and nothing else

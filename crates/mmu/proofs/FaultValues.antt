@@ -4,6 +4,7 @@ use mathlib.Core.Path.{◌≡◌, refl, sym, subst}
 use mathlib.Core.Bool.{Bool, true, false, cond}
 use native.Mathlib.Omega.{arith}
 use borrow.Author.Tests.{eqb-false, eq-eqb}
+use Rattle.std.specs.Prelude.{Option, Some, None}
 use Rattle.runs.proofs.Bools.{clash}
 use Rattle.registers.specs.Refusals.{by_refusal}
 use Rattle.registers.specs.Replies.{refused}
@@ -16,8 +17,6 @@ use Rattle.page_table.specs.declared.Stop.{Stop}
 use Rattle.page_table.specs.declared.Walk.{Walk}
 use Rattle.page_table.specs.declared.Walk.TheVariants.{Leaf, Absent, Broken}
 use Rattle.slots.specs.Buffer.{Buffer}
-use Rattle.access.specs.declared.Physical.{Physical}
-use Rattle.access.specs.declared.Physical.TheVariants.{Address, None}
 use Rattle.access.specs.declared.Translation.{Translation}
 use Rattle.access.proofs.Values.{translate-value-le}
 use Rattle.store.specs.Machine.{Machine}
@@ -39,8 +38,8 @@ tried : (P : ℕ → Type 0) (t : Translation) (loads : ℕ) → P t.value → I
 unfolding IfFault tried_reply outcome_of
 tried P t loads p = by-physical t.physical
   where
-    by-physical : (physical : Physical) → IfFault P (outcome_of physical t.value)
-    by-physical (Address address) = tt
+    by-physical : (physical : Option ℕ) → IfFault P (outcome_of physical t.value)
+    by-physical (Some address) = tt
     by-physical None = p
 
 miss-decided : (found : Walk) (r : Registers) (b : Buffer) (a : Access) → ToldByFault found

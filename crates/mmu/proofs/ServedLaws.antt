@@ -6,6 +6,7 @@ use native.Mathlib.Omega.{arith}
 use lib.Dec.{eqb}
 use lib.ListN.{length}
 use borrow.Author.Tests.{eq-eqb, ne_eqb}
+use Rattle.std.specs.Prelude.{Option, Some, None}
 use Rattle.entry.specs.Address.{vpn_of}
 use Rattle.entry.specs.Entry.{pack}
 use Rattle.entry.proofs.Fields.{vpn-lt}
@@ -28,8 +29,6 @@ use Rattle.slots.specs.Buffer.{Buffer, buffer_fits}
 use Rattle.tlb.specs.Load.{loaded_buffer, LoadGives}
 use Rattle.tlb.proofs.Loads.{load-slot-lt, load_fits}
 use Rattle.access.specs.Translation.{Accepted, is_set, translate}
-use Rattle.access.specs.declared.Physical.{Physical}
-use Rattle.access.specs.declared.Physical.TheVariants.{Address, None}
 use Rattle.access.specs.declared.Translation.{Translation}
 use Rattle.access.proofs.AccessLaws.{draw-lt}
 use Rattle.access.proofs.Keeping.{select-fits, translate-fits}
@@ -58,7 +57,7 @@ page-lt address vpn q = subst (λ (n : ℕ). n < 524288) (sym q) (vpn-lt address
 
 -- a try's reply, by its physical address
 module _ (t : Translation) (loads : ℕ) (reply : Reply) where
-  pub tried-address : (address : ℕ) → t.physical ≡ Address address → reply ≡ answered t.registers (At address) loads
+  pub tried-address : (address : ℕ) → t.physical ≡ Some address → reply ≡ answered t.registers (At address) loads
       → reply ≡ tried_reply t loads
   unfolding tried_reply outcome_of
   tried-address address h q = q ∙ sym (rw h)
@@ -151,8 +150,8 @@ tried-answers : (t : Translation) (loads : ℕ) → refusal_of (tried_reply t lo
 unfolding tried_reply outcome_of refusal_of
 tried-answers t loads = by-physical t.physical
   where
-    by-physical : (p : Physical) → refusal_of (outcome_of p t.value) ≡ 0
-    by-physical (Address address) = refl
+    by-physical : (p : Option ℕ) → refusal_of (outcome_of p t.value) ≡ 0
+    by-physical (Some address) = refl
     by-physical None = refl
 
 miss-answers : (found : Walk) (r : Registers) (b : Buffer) (a : Access) → refusal_of (after_miss found r b a).outcome ≡ 0

@@ -1,5 +1,5 @@
 -- The call served access: try; on a miss walk; where a leaf is found, load it and try again. Refusals 1, 2, 3, 4 and 5.
-use Rattle.std.specs.Prelude.{ℕ, ◌≡◌, Bool, cond, not, ◌&&◌, eqb}
+use Rattle.std.specs.Prelude.{ℕ, ◌≡◌, Bool, cond, not, ◌&&◌, eqb, Option, Some, None}
 use Rattle.entry.specs.Address.{vpn_of}
 use Rattle.entry.specs.Entry.{pack}
 use Rattle.registers.specs.Fields.{put, registers_fit, SELECT}
@@ -20,8 +20,6 @@ use Rattle.slots.specs.Buffer.{Buffer, buffer_fits}
 use Rattle.tlb.specs.Load.{load_slot, loaded_buffer}
 use Rattle.access.specs.Exceptions.{MISS}
 use Rattle.access.specs.Translation.{is_set, translate}
-use Rattle.access.specs.declared.Physical.{Physical}
-use Rattle.access.specs.declared.Physical.TheVariants.{Address, None}
 use Rattle.access.specs.declared.Translation.{Translation}
 use Rattle.store.specs.Leaf.{leaf_entry}
 use Rattle.store.specs.Machine.{Machine}
@@ -40,8 +38,8 @@ served_refusal m a =
     (service_refusal m.registers a.draw)
 
 -- the address, or where there is none the exception's value as the fault
-unfoldable pub outcome_of : Physical → (value : ℕ) → Outcome
-outcome_of (Address address) value = At address
+unfoldable pub outcome_of : Option ℕ → (value : ℕ) → Outcome
+outcome_of (Some address) value = At address
 outcome_of None value = Fault value
 
 -- a raw access's answer, after so many loads

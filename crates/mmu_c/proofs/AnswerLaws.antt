@@ -4,12 +4,12 @@ use mathlib.Core.Path.{◌≡◌, sym, ◌∙◌}
 use mathlib.Core.Bool.{Bool, true, false}
 use native.Mathlib.Omega.{arith}
 use borrow.Author.Tests.{ltb-true}
+use Rattle.std.specs.Prelude.{Some, None}
 use Rattle.runs.specs.Bits.{bit}
 use Rattle.registers.specs.Refusals.{refuse_unless, machine_refusal}
 use Rattle.registers.specs.declared.Outcome.{Outcome}
 use Rattle.registers.specs.declared.Outcome.TheVariants.{At, Fault, Done, Refused}
 use Rattle.registers.specs.declared.Reply.{Reply}
-use Rattle.access.specs.declared.Physical.TheVariants.{Address, None}
 use Rattle.access.specs.declared.Translation.{Translation}
 use Rattle.mmu_c.specs.Answers.{refusal_answer, access_answer, raw_answer, translation_answer, outcome_answer, reply_answer, outcome_fits}
 
@@ -23,7 +23,7 @@ answer-sum address value loads located interrupts exception l i e p q s = rw (�
 
 -- a raw access's answer by its physical address
 module _ (t : Translation) (n : ℕ) where
-  pub answer-address : (address : ℕ) → t.physical ≡ Address address
+  pub answer-address : (address : ℕ) → t.physical ≡ Some address
       → n ≡ access_answer address t.value 0 true t.interrupt t.exception → n ≡ translation_answer t
   unfolding translation_answer raw_answer
   answer-address address h q = q ∙ sym (rw h)

@@ -6,6 +6,7 @@ use mathlib.Core.List.{List}
 use native.Mathlib.Omega.{arith}
 use lib.ListN.{length}
 use borrow.Author.Tests.{lt-ltb, not-true}
+use Rattle.std.specs.Prelude.{Option, Some, None}
 use Rattle.wire.specs.Wire.{AreBytes}
 use Rattle.entry.specs.Address.{vpn_of}
 use Rattle.registers.specs.Fields.{registers_fit}
@@ -25,8 +26,6 @@ use Rattle.page_table.specs.declared.Walk.TheVariants.{Leaf, Absent, Broken}
 use Rattle.slots.specs.Buffer.{Buffer}
 use Rattle.slots.specs.Buffer.Buffer.{Wide}
 use Rattle.access.specs.Translation.{Accepted, no_exception, translate}
-use Rattle.access.specs.declared.Physical.{Physical}
-use Rattle.access.specs.declared.Physical.TheVariants.{Address, None}
 use Rattle.access.specs.declared.Translation.{Translation}
 use Rattle.access.proofs.AccessLaws.{draw-lt}
 use Rattle.access.proofs.Plain.{Plain, plain, plain-registers}
@@ -104,8 +103,8 @@ tried-fits : (t : Translation) (loads : ℕ) → t.value ≤ 8 → loads < 16 �
 unfolding tried_reply outcome_of outcome_fits
 tried-fits t loads l k = (by-physical t.physical, k)
   where
-    by-physical : (p : Physical) → outcome_fits (outcome_of p t.value) ≡ true
-    by-physical (Address address) = refl
+    by-physical : (p : Option ℕ) → outcome_fits (outcome_of p t.value) ≡ true
+    by-physical (Some address) = refl
     by-physical None = lt-ltb t.value 65536 (omega arith)
 
 miss-fits : (found : Walk) (r : Registers) (b : Buffer) (a : Access) → ReplyFits (after_miss found r b a)

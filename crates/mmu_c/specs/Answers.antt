@@ -1,13 +1,11 @@
 -- The 64-bit answer of the C calls, by its bits: 0 to 31 the address, or the slots that a store emptied; 32 to 47 the exception or fault
 -- value; 48 to 51 the loads; 52 there is an address; 53 it interrupts; 54 there was an exception or a fault; 56 to 63 a refusal's
 -- number, and all else then 0.
-use Rattle.std.specs.Prelude.{ℕ, ◌+◌, ◌*◌, ◌^◌, Bool, true, false, ltb}
+use Rattle.std.specs.Prelude.{ℕ, ◌+◌, ◌*◌, ◌^◌, Bool, true, false, ltb, Option, Some, None}
 use Rattle.runs.specs.Bits.{bit}
 use Rattle.registers.specs.declared.Outcome.{Outcome}
 use Rattle.registers.specs.declared.Outcome.TheVariants.{At, Fault, Done, Refused}
 use Rattle.registers.specs.declared.Reply.{Reply}
-use Rattle.access.specs.declared.Physical.{Physical}
-use Rattle.access.specs.declared.Physical.TheVariants.{Address, None}
 use Rattle.access.specs.declared.Translation.{Translation}
 
 unfoldable pub refusal_answer : (number : ℕ) → ℕ
@@ -19,8 +17,8 @@ access_answer address value loads located interrupts exception =
     address + value * 2 ^ 32 + loads * 2 ^ 48 + bit located * 2 ^ 52 + bit interrupts * 2 ^ 53 + bit exception * 2 ^ 54
 
 -- a raw access's four answers
-unfoldable pub raw_answer : Physical → (interrupts exception : Bool) (value : ℕ) → ℕ
-raw_answer (Address address) interrupts exception value = access_answer address value 0 true interrupts exception
+unfoldable pub raw_answer : Option ℕ → (interrupts exception : Bool) (value : ℕ) → ℕ
+raw_answer (Some address) interrupts exception value = access_answer address value 0 true interrupts exception
 raw_answer None interrupts exception value = access_answer 0 value 0 false interrupts exception
 
 unfoldable pub translation_answer : Translation → ℕ

@@ -17,7 +17,7 @@ ghost use Rattle.mmu_c.specs.Location.{Fetched};
 ghost use Rattle.mmu_c.specs.Runs.{BUFFER_BYTES, REGISTER_BYTES};
 ghost use Rattle.mmu_c.specs.Runs.{buffer_of, buffer_taken, register_bytes, registers_of, registers_taken, tables_taken};
 
-use access::{Physical, Translation};
+use access::Translation;
 use registers::{Access, Outcome, Registers, Reply};
 
 // The weights of the answer's fields.
@@ -77,7 +77,7 @@ fn translation_answer(t: Translation) -> u64
 {
     let physical = t.physical;
     match physical {
-        Physical::Address(address) => access_answer(
+        Some(address) => access_answer(
             address,
             t.value,
             0,
@@ -85,7 +85,7 @@ fn translation_answer(t: Translation) -> u64
             t.interrupt,
             t.exception,
         ),
-        Physical::None => access_answer(0, t.value, 0, false, t.interrupt, t.exception),
+        None => access_answer(0, t.value, 0, false, t.interrupt, t.exception),
     }
 }
 

@@ -7,7 +7,6 @@ mod mups16_scenarios;
 ghost use Rattle.std.specs.Prelude.{◌^◌, ◌<◌, ◌≤◌};
 ghost use Rattle.entry.specs.Address.{PAGE, PAGES};
 
-use access::Physical;
 use collector::Collected;
 use heap::{Mapped, Pool};
 use mmu::RawReply;
@@ -97,10 +96,10 @@ fn access_of(scenario: u32, i: u64) -> Access
     reading(((7 * i) % 64) as u32, 291, 0)
 }
 
-fn address_of(physical: Physical) -> u64 {
+fn address_of(physical: Option<u32>) -> u64 {
     match physical {
-        Physical::Address(address) => address as u64,
-        Physical::None => 0,
+        Some(address) => address as u64,
+        None => 0,
     }
 }
 

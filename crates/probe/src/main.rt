@@ -7,7 +7,6 @@ mod mups16_calls;
 ghost use Rattle.std.specs.Prelude.{◌≡◌, ◌*◌, ◌≤◌, length};
 ghost use Rattle.probe.specs.Lengths.{SLOTS, WORDS};
 
-use access::Physical;
 use collector::Collected;
 use heap::{Mapped, Pool, PoolReply};
 use mmu::RawReply;
@@ -163,8 +162,8 @@ fn raw_answer(reply: RawReply) -> Answer {
             let physical = t.physical;
             let registers = t.registers;
             match physical {
-                Physical::Address(address) => answered(1, address, flags, t.value, registers),
-                Physical::None => answered(0, 0, flags, t.value, registers),
+                Some(address) => answered(1, address, flags, t.value, registers),
+                None => answered(0, 0, flags, t.value, registers),
             }
         }
     }

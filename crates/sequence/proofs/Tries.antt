@@ -5,6 +5,7 @@ use mathlib.Core.Path.{◌≡◌, refl, sym, ap, ◌∙◌, subst}
 use mathlib.Core.Bool.{Bool, true, false, cond, not, ◌&&◌, ◌||◌}
 use mathlib.Core.List.{List}
 use lib.Dec.{eqb, eqb-suc-zero}
+use Rattle.std.specs.Prelude.{Option, Some, None}
 use Rattle.runs.specs.Bits.{bit}
 use Rattle.runs.proofs.Bools.{is_false, clash, both, and_both}
 use Rattle.runs.proofs.Counts.{count_none, count-one, lowest-one}
@@ -29,8 +30,6 @@ use Rattle.access.specs.Segments.{in_linear_segment, linear_address}
 use Rattle.access.specs.Exceptions.{inv_exc, write_error, access_violation, invalid_page, exception_value, MISS}
 use Rattle.access.specs.Translation.{page_address, is_set, no_exception, with_cause, exception_address, exception_answer, hit_value, on_hit}
 use Rattle.access.specs.Translation.{by_hit_count, found_set, page_mapped, translate}
-use Rattle.access.specs.declared.Physical.{Physical}
-use Rattle.access.specs.declared.Physical.TheVariants.{Address, None}
 use Rattle.access.specs.declared.Translation.{Translation}
 use Rattle.store.specs.Sweep.{kept_at}
 use Rattle.mmu.specs.ServedAccess.{outcome_of, missed}
@@ -103,7 +102,7 @@ module _ (r : Registers) (b : Buffer) (a : Access) where
       go : (t : Bool) → missed
           (cond t
           (no_exception r (cond (is_set r.enable) frame a.address))
-          (exception_answer r a slot (hit_value r a f) (Address frame)))
+          (exception_answer r a slot (hit_value r a f) (Some frame)))
           ≡ false
       go true = refl
       go false = value-not-miss f
@@ -139,7 +138,7 @@ module _ (r : Registers) (b : Buffer) (a : Access) where
 
   -- ---- which registers it leaves
 
-  answer_keeps : (slot value : ℕ) (tested : Physical) → Kept (exception_answer r a slot value tested).registers r
+  answer_keeps : (slot value : ℕ) (tested : Option ℕ) → Kept (exception_answer r a slot value tested).registers r
   unfolding exception_answer
   answer_keeps slot value tested = cause-keeps r a slot value
 
@@ -157,7 +156,7 @@ module _ (r : Registers) (b : Buffer) (a : Access) where
       go : (t : Bool) → Kept
           (cond t
           (no_exception r (cond (is_set r.enable) frame a.address))
-          (exception_answer r a slot (hit_value r a f) (Address frame))).registers
+          (exception_answer r a slot (hit_value r a f) (Some frame))).registers
           r
       go true = none-keeps _
       go false = answer_keeps _ _ _
@@ -223,7 +222,7 @@ module _ (r : Registers) (b : Buffer) (words : List ℕ) (a : Access) (en : is_s
   abbrev inv-on : Bool
   inv-on = inv_exc r.ctrl
 
-  exception-told : (slot value : ℕ) (tested : Physical) → told (exception_answer r a slot value tested) ≡ Fault value
+  exception-told : (slot value : ℕ) (tested : Option ℕ) → told (exception_answer r a slot value tested) ≡ Fault value
   unfolding told exception_answer exception_address outcome_of
   exception-told slot value tested = rw (en, te)
 
@@ -238,10 +237,10 @@ module _ (r : Registers) (b : Buffer) (words : List ℕ) (a : Access) (en : is_s
       frame = page_address f.pfn a.address
 
       go : (t : Bool)
-          → told (cond t (no_exception r (cond (is_set r.enable) frame a.address)) (exception_answer r a slot value (Address frame)))
+          → told (cond t (no_exception r (cond (is_set r.enable) frame a.address)) (exception_answer r a slot value (Some frame)))
           ≡ cond t (At frame) (Fault value)
       go true = rw en
-      go false = exception-told slot value (Address frame)
+      go false = exception-told slot value (Some frame)
 
   pub miss-is : hit_count b (inv_exc r.ctrl) r.context (vpn_of a.address) ≡ 0
       → translate r b a ≡ exception_answer r a (slot_of a.draw (vpn_of a.address)) MISS None

@@ -5,6 +5,7 @@ ghost use Rattle.std.specs.Prelude.{true, [], ◌∷◌, ◌≡◌, ◌<◌, ◌
 ghost use Rattle.entry.specs.Address.{PAGES};
 ghost use Rattle.entry.specs.Entry.{pack, unpack};
 ghost use Rattle.page_table.specs.Stretches.{ROOTS};
+ghost use Rattle.registers.specs.Numbers.{refusal_number};
 ghost use Rattle.slots.specs.Buffer.{Buffer, buffer_fits};
 ghost use Rattle.store.specs.Leaf.{leaf_entry};
 ghost use Rattle.store.specs.Sweep.{SweepGives, agrees_with_leaf, goes, kept, settled};
@@ -14,7 +15,7 @@ ghost use Rattle.store.specs.TableStore.{TableStoreGives, store_refusal};
 
 use entry::Entry;
 use page_table::{Found, Walk};
-use registers::{Registers, Reply, refusals};
+use registers::{Refusal, Registers, Reply};
 
 // A page under an identification.
 #[derive(Clone, Copy)]
@@ -130,24 +131,21 @@ pub fn rewrite(buffer: &mut [u64], words: &mut [u32], index: u32, value: u32) ->
     sweep(buffer, words)
 }
 
-// The number that a table store is refused with; 0 where it is accepted.
-pub fn store_refusal(r: Registers, buffer: &[u64], words: &[u32], index: u32) -> u32
-    ensures { result ≡ store_refusal
+// Whether a table store is accepted, or what it is refused for.
+pub fn store_refusal(r: Registers, buffer: &[u64], words: &[u32], index: u32) -> Result<(), Refusal>
+    ensures { refusal_number result ≡ store_refusal
         (record { registers = r; buffer = Buffer.Wide buffer.now; words = words.now }) index }
 {
-    let early = registers::machine_refusal(
+    registers::machine_refusal(
         registers::registers_fit(r),
         slots::buffer_fits(buffer),
         page_table::tables_fit(words),
-    );
-    if early != 0 {
-        return early;
-    }
+    )?;
     let index_fits = (index as usize) < words.len();
     if !index_fits {
-        return refusals::INDEX;
+        return Err(Refusal::Index);
     }
-    0
+    Ok(())
 }
 
 // Writes one word of the page tables. The outcome is Done with the number of slots that were emptied.
@@ -162,9 +160,8 @@ pub fn table_store(
         (record { registers = r; buffer = Buffer.Wide buffer.old; words = words.old })
         (record { index = index; value = value }) result (Buffer.Wide buffer.new) words.new }
 {
-    let refusal = store_refusal(r, buffer, words, index);
-    if refusal != 0 {
-        return registers::refused(r, refusal);
+    if let Err(refusal) = store_refusal(r, buffer, words, index) {
+        return registers::refused(r, u32::from(refusal));
     }
     let emptied = rewrite(buffer, words, index, value);
     registers::done(r, emptied)

@@ -4,7 +4,7 @@ use Rattle.std.specs.Io.KnownBytes.{Consumes}
 use Rattle.std.proofs.KnownBytes.{Consumes-trans}
 use borrow.Rule.Slice.PartMut.{put_mid, post_of}
 use lib.Seq.{take-add, take-append-le}
-use Rattle.tracing.proofs.reads.fill.Goals as goal
+use Rattle.streams.proofs.filling.fill.Goals as goal
 
 take_split : (a b : ℕ) (old new : List ℕ) → a ≤ b → take a new ≡ take a old → take a old ++ slice_range new a b ≡ take b new
 take_split a b old new h front =
@@ -18,17 +18,17 @@ slice_range-put_mid a k n xs ys within fits =
     ap (take ((a + n) - a)) (drop_at (take a xs) (ys ++ after) a (length-take-le a xs within)) ∙ ap (λ m. take m (ys ++ after)) same
     ∙ take-append-le n ys after fits
 
-pub loop-done-preserved : goal.loop-done-preserved
-loop-done-preserved g c =
-    let from = c.loop-done.done in
-    let room = length c.args.run.now - from in
-    let more = c.read_some-more.result in
-    let within : from ≤ length c.loop-done.run = search rules in
-    let part = slice_range-put_mid from room more c.loop-done.run c.read_some-more.new.part within c.read_some-more.ensures.room in
-    let joined = take_split from (from + more) c.loop-done.run (put_mid from room c.loop-done.run c.read_some-more.new.part)
-    (omega arith) (take-put_mid_below _ _ _ _ _ (le_refl _) within) in (
+pub loop-length-preserved : goal.loop-length-preserved
+loop-length-preserved g c =
+    let from = c.loop-length.length in
+    let room = length c.loop-length.run - from in
+    let more = c.in-Ok.n in
+    let run = put_mid from room c.loop-length.run c.read.new.buf in
+    let within : from ≤ length c.loop-length.run = omega arith in
+    let fits : more ≤ length c.read.new.buf = omega (arith, c.in-Ok.ensures.bound) in
+    let part = slice_range-put_mid from room more c.loop-length.run c.read.new.buf within fits in
+    let joined = take_split from (from + more) c.loop-length.run run (omega arith) (take-put_mid_below _ _ _ _ _ (le_refl _) within) in (
       search rules,
-      search rules,
-      subst (Consumes _ _) (ap (λ l. take from c.loop-done.run ++ l) (sym part) ∙ joined)
-          (Consumes-trans _ _ _ _ _ c.loop-done.invariant.2 c.read_some-more.ensures.taken),
+      subst (Consumes _ _) (ap (λ l. take from c.loop-length.run ++ l) (sym part) ∙ joined)
+          (Consumes-trans _ _ _ _ _ c.loop-length.invariant.1 c.in-Ok.ensures.bytes.0),
     )
