@@ -363,9 +363,13 @@ fn read_request(input: &mut impl Read) -> Request {
     let mut field_bytes = [0u8; REGISTER_BYTES];
     let mut fields = [0u32; 11];
     let got = head & read_words(input, &mut field_bytes, &mut fields);
-    let s = mups16_calls::read_state(input, words[0]);
-    let state = s.state;
-    requested(got & s.got, words, fields, state)
+    let state = mups16_calls::read_state(input, words[0]);
+    requested(
+        got & state.is_some(),
+        words,
+        fields,
+        state.unwrap_or_default(),
+    )
 }
 
 // Reads a pool where the kind has one.
