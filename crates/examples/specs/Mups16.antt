@@ -1,5 +1,5 @@
 -- The MUPS/16 unit, in one list: boot mode, each fault, table indexes, entry addresses, bits above an entry's 19, and a history.
-use Rattle.std.specs.Prelude.{ℕ, ◌+◌, ◌*◌, Bool, true, false, List, [], ◌∷◌, ◌++◌, set, replicate, Result, Ok, Err}
+use Rattle.std.specs.Prelude.{ℕ, ◌+◌, ◌*◌, Bool, true, false, List, [], ◌∷◌, ◌++◌, set, replicate, Ok, Err}
 use Rattle.mups16.specs.Answers.{refusal_of}
 use Rattle.mups16.specs.States.{index_of, with_index}
 use Rattle.mups16.specs.Map.{map_reply}
@@ -10,7 +10,6 @@ use Rattle.mups16.specs.Requests.{history_of}
 use Rattle.mups16.specs.Requests.Request.{ToMap, ToSetTableIndex, ToSetBootMode}
 use Rattle.mups16.specs.LastFault.{last_fault}
 use Rattle.mups16.specs.declared.State.{State}
-use Rattle.mups16.specs.declared.refusal.Refusal.{Refusal}
 use Rattle.mups16.specs.declared.refusal.Refusal.TheVariants.{WrongLength}
 use Rattle.mups16.specs.declared.MapReply.{MapReply}
 use Rattle.examples.specs.Claims.{Example, ◌gives◌}

@@ -18,11 +18,11 @@ use registers::{Access, Outcome, Refusal, Registers, Reply};
 // The number of the register SELECT.
 const SELECT: u32 = 6;
 
-// What a raw access replies: its answers and registers, or the refusal's number and the registers received.
+// A raw access that was refused: the refusal's number, and the registers received.
 #[derive(Clone, Copy)]
-pub enum RawReply {
-    Answered(Translation),
-    Refused(u32, Registers),
+pub struct Refused {
+    pub number: u32,
+    pub registers: Registers,
 }
 
 // The draw is the number of a set.
@@ -55,7 +55,7 @@ pub fn raw_access(
     user: bool,
     write: bool,
     draw: u32,
-) -> RawReply
+) -> Result<Translation, Refused>
     ensures { RawAccessGives r (Buffer.Wide buffer.now)
         (record { address = address; user = user; write = write; draw = draw }) result }
 {
@@ -66,10 +66,12 @@ pub fn raw_access(
         draw,
     };
     if let Err(refusal) = raw_refusal(r, buffer, a) {
-        return RawReply::Refused(u32::from(refusal), r);
+        return Err(Refused {
+            number: u32::from(refusal),
+            registers: r,
+        });
     }
-    let answer = access::translate(r, buffer, a);
-    RawReply::Answered(answer)
+    Ok(access::translate(r, buffer, a))
 }
 
 // Test mode and context 63 are not served.

@@ -12,13 +12,13 @@ ghost use Rattle.runs.specs.Bits.{bit};
 ghost use Rattle.wire.specs.Wire.{AreBytes};
 ghost use Rattle.entry.specs.Address.{vpn_of};
 ghost use Rattle.access.specs.Translation.{Accepted, translate};
-ghost use Rattle.mmu_c.specs.Answers.{access_answer, outcome_fits, refusal_answer, reply_answer, translation_answer};
+ghost use Rattle.mmu_c.specs.Answers.{access_answer, answer_of, outcome_fits, refusal_answer, reply_answer, translation_answer};
 ghost use Rattle.mmu_c.specs.Location.{Fetched};
 ghost use Rattle.mmu_c.specs.Runs.{BUFFER_BYTES, REGISTER_BYTES};
 ghost use Rattle.mmu_c.specs.Runs.{buffer_of, buffer_taken, register_bytes, registers_of, registers_taken, tables_taken};
 
 use access::Translation;
-use registers::{Access, Outcome, Registers, Reply};
+use registers::{Access, Outcome, Refusal, Registers, Reply};
 
 // The weights of the answer's fields.
 const BIT_32: u64 = 1 << 32;
@@ -49,6 +49,16 @@ fn refusal_answer(number: u32) -> u64
     number as u64 * BIT_56
 }
 
+// The answer of a call: what it gives, or its refusal's.
+fn answer_of(given: Result<u64, Refusal>) -> u64
+    ensures { result ≡ answer_of given }
+{
+    match given {
+        Ok(answer) => answer,
+        Err(refusal) => refusal_answer(u32::from(refusal)),
+    }
+}
+
 fn bit(flag: bool) -> u64
     ensures { (result ≡ bit flag) × (result ≤ 1) }
 {
@@ -77,14 +87,7 @@ fn translation_answer(t: Translation) -> u64
 {
     let physical = t.physical;
     match physical {
-        Some(address) => access_answer(
-            address,
-            t.value,
-            0,
-            true,
-            t.interrupt,
-            t.exception,
-        ),
+        Some(address) => access_answer(address, t.value, 0, true, t.interrupt, t.exception),
         None => access_answer(0, t.value, 0, false, t.interrupt, t.exception),
     }
 }

@@ -9,7 +9,6 @@ ghost use Rattle.entry.specs.Address.{PAGE, PAGES};
 
 use collector::Collected;
 use heap::{Mapped, Pool};
-use mmu::RawReply;
 use registers::{Access, Outcome, Registers, Reply};
 use std::io::{Read, Write};
 
@@ -110,7 +109,7 @@ fn run_raw(r: Registers, buffer: &[u64], count: u32) -> u64 {
     for i in 0..count as u64 {
         let a = access_of(0, i);
         let reply = mmu::raw_access(registers, buffer, a.address, a.user, a.write, a.draw);
-        let RawReply::Answered(t) = reply else {
+        let Ok(t) = reply else {
             return 0;
         };
         let physical = t.physical;

@@ -1,8 +1,9 @@
 // What the unit's calls answer, as the words of an answer.
 use crate::parts;
+use access::Translation;
 use collector::Collected;
 use heap::{Mapped, Pool, PoolReply};
-use mmu::RawReply;
+use mmu::Refused;
 use page_table::Walk;
 use registers::{Outcome, Registers, Reply};
 use std::io::Write;
@@ -62,10 +63,9 @@ pub(crate) fn read_answer(reply: Reply) -> Answer {
     }
 }
 
-pub(crate) fn raw_answer(reply: RawReply) -> Answer {
+pub(crate) fn raw_answer(reply: Result<Translation, Refused>) -> Answer {
     match reply {
-        RawReply::Refused(number, registers) => answered(2, number, 0, 0, registers),
-        RawReply::Answered(t) => {
+        Ok(t) => {
             let flags = u32::from(t.interrupt) + 2 * u32::from(t.exception);
             let (form, address) = match t.physical {
                 Some(address) => (1, address),
@@ -73,6 +73,7 @@ pub(crate) fn raw_answer(reply: RawReply) -> Answer {
             };
             answered(form, address, flags, t.value, t.registers)
         }
+        Err(refused) => answered(2, refused.number, 0, 0, refused.registers),
     }
 }
 

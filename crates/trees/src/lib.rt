@@ -4,31 +4,17 @@
 
 ghost use Rattle.std.specs.Prelude.{true, ◌≡◌, ◌+◌, ◌*◌, ◌≤◌, ◌<◌, length};
 ghost use Rattle.page_table.specs.Stretches.{ROOTS};
-ghost use Rattle.reach.specs.Reach.{leads_to};
 ghost use Rattle.trees.specs.Trees.{names_table, also_named, has_broken, names_twice, overlaps};
 ghost use Rattle.trees.specs.Trees.{shares_table, meets, meets_root, met, apart, tree_fits};
-
-// Whether a word leads on to the table of a number, in a run of a length.
-fn leads_to(length: usize, word: u32, table: usize) -> bool
-    ensures { result ≡ leads_to length 0 word table }
-{
-    page_table::leads_on(length, 0, word) & (page_table::number_of(word) == table)
-}
 
 // Whether one of the first n words of a directory leads on to a table.
 fn names_table(words: &[u32], directory: usize, n: usize, table: usize) -> bool
     requires { (512 * directory + 512 ≤ length words.now) × (n ≤ 512) }
     ensures { result ≡ names_table words.now directory n table }
 {
-    let from = page_table::DIRECTORY * directory;
-    let mut j: usize = 0;
-    while j < n {
-        if leads_to(words.len(), words[from + j], table) {
-            return true;
-        }
-        j += 1;
-    }
-    false
+    reach::directory(words, directory)[..n]
+        .iter()
+        .any(|word| reach::leads_to(words.len(), 0, *word, table))
 }
 
 // Whether a word leads on to a table that one of the first n words of a directory leads on to as well.
@@ -47,16 +33,8 @@ fn has_broken(words: &[u32], directory: usize) -> bool
     requires { 512 * directory + 512 ≤ length words.now }
     ensures { result ≡ has_broken words.now directory }
 {
-    let from = page_table::DIRECTORY * directory;
-    let mut j: usize = 0;
-    while j < page_table::DIRECTORY {
-        let word = words[from + j];
-        if page_table::is_present(word) & !page_table::leads_on(words.len(), 0, word) {
-            return true;
-        }
-        j += 1;
-    }
-    false
+    reach::directory(words, directory).iter().any(|word| page_table::is_present(*word)
+        & !page_table::leads_on(words.len(), 0, *word))
 }
 
 // Whether two words of a directory lead on to one table.
@@ -64,15 +42,8 @@ fn names_twice(words: &[u32], directory: usize) -> bool
     requires { 512 * directory + 512 ≤ length words.now }
     ensures { result ≡ names_twice words.now directory }
 {
-    let from = page_table::DIRECTORY * directory;
-    let mut j: usize = 0;
-    while j < page_table::DIRECTORY {
-        if also_named(words, words[from + j], directory, j) {
-            return true;
-        }
-        j += 1;
-    }
-    false
+    let own = reach::directory(words, directory);
+    (0..page_table::DIRECTORY).any(|j| also_named(words, own[j], directory, j))
 }
 
 // Whether a directory stands in the words of one of its tables.
@@ -88,15 +59,12 @@ fn shares_table(words: &[u32], directory: usize, other: usize) -> bool
     requires { (512 * directory + 512 ≤ length words.now) × (512 * other + 512 ≤ length words.now) }
     ensures { result ≡ shares_table words.now directory other }
 {
-    let from = page_table::DIRECTORY * other;
-    let mut j: usize = 0;
-    while j < page_table::DIRECTORY {
-        if also_named(words, words[from + j], directory, page_table::DIRECTORY) {
-            return true;
-        }
-        j += 1;
-    }
-    false
+    reach::directory(words, other).iter().any(|word| also_named(
+        words,
+        *word,
+        directory,
+        page_table::DIRECTORY,
+    ))
 }
 
 // Whether a word of a directory or of its tables lies in another directory or in one of its tables.
@@ -131,22 +99,12 @@ fn meets_root(words: &[u32], id: u32, directory: usize, root: u32) -> bool
     meets(words, directory, page_table::number_of(word))
 }
 
-// How many roots there are.
-const ROOTS: u32 = 64;
-
 // Whether such a word lies in a stretch that any other root reaches, the global root too.
 fn is_met(words: &[u32], id: u32, directory: usize) -> bool
     requires { (512 * directory + 512 ≤ length words.now) × (ROOTS ≤ length words.now) }
     ensures { result ≡ met words.now id directory }
 {
-    let mut root: u32 = 0;
-    while root < ROOTS {
-        if meets_root(words, id, directory, root) {
-            return true;
-        }
-        root += 1;
-    }
-    false
+    (0..reach::ROOTS).any(|root| meets_root(words, id, directory, root))
 }
 
 // Whether the tree of the identification's directory stands by itself.

@@ -1,29 +1,24 @@
-use native.Mathlib.Omega.{arith}
-use Rattle.runs.proofs.Searches.{search-none, search-found, search-on, search-all}
-use Rattle.page_table.specs.Stretches.{directory_word}
+use Rattle.std.proofs.Common.{◌+◌, ◌*◌, not, ◌&&◌, length, get_or, refl, rules, tests, ◌∙◌}
+use Rattle.std.proofs.lemmas.Iterator.{YieldsList-from_slice}
+use Rattle.std.proofs.lemmas.Iterator.Search.{any_from_yields_List}
+use Rattle.runs.proofs.Counts.{any_same}
+use Rattle.page_table.specs.Words.{present}
+use Rattle.page_table.specs.Reads.{leads_on}
+use Rattle.page_table.specs.Stretches.{stretch, stretch_size, broken, directory_word}
+use Rattle.reach.proofs.Searches.{any_directory}
 use Rattle.trees.specs.Trees.{has_broken}
 use Rattle.trees.proofs.TreeLaws.{broken-at}
 use Rattle.trees.proofs.has_broken.Goals as goal
 
-pub loop-j-init : goal.loop-j-init
-loop-j-init c = search-none _ _
-
-pub is_present-requires : goal.is_present-requires
-is_present-requires c = tt
-
-pub leads_on-requires : goal.leads_on-requires
-leads_on-requires c = tt
-
-pub returns-then-is_present-leads_on : goal.returns-then-is_present-leads_on
-unfolding has_broken directory_word
-returns-then-is_present-leads_on c = search-found _ _ _ _ (broken-at _ 0 _ _ _ c.is_present.ensures c.leads_on.ensures) (omega arith)
-    c.if-is_present-leads_on.true
-
-pub loop-j-preserved : goal.loop-j-preserved
-unfolding directory_word
-loop-j-preserved c = search-on _ _ _ _ (broken-at _ 0 _ _ _ c.is_present.ensures c.leads_on.ensures) (omega arith)
-    c.loop-j.invariant c.if-is_present-leads_on.false
-
 pub returns : goal.returns
-unfolding has_broken
-returns c = search-all _ _ _ c.loop-j.invariant (omega arith)
+unfolding has_broken directory_word
+returns c =
+    let words = c.args.words.now in
+    let d = c.args.directory in
+    any_from_yields_List (λ w. present w && not (leads_on (length words) 0 w)) _ _ _ c.any.ensures.ran
+    (YieldsList-from_slice (stretch words 512 d) cc)
+    (λ x b q k. search (rules, tests))
+    ∙ any_directory (λ w. present w && not (leads_on (length words) 0 w)) _ _ c.requires
+    ∙ any_same (λ j. present (get_or words (512 * d + j) 0) && not (leads_on (length words) 0 (get_or words (512 * d + j) 0)))
+    (λ j. present (get_or words (512 * d + j) 0) && broken (length words) (stretch_size 0) (get_or words (512 * d + j) 0)) 512
+    (λ j l. broken-at _ 0 _ _ _ refl refl)

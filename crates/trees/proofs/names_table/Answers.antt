@@ -1,23 +1,22 @@
-use native.Mathlib.Omega.{arith}
-use Rattle.runs.proofs.Searches.{search-none, search-found, search-on, search-all}
-use Rattle.page_table.specs.Stretches.{directory_word}
+use Rattle.std.proofs.Common.{length, take, ap, rules, tests, arith, ◌∙◌}
+use Rattle.std.proofs.lemmas.List.{length-take}
+use Rattle.std.proofs.lemmas.Iterator.{YieldsList-from_slice}
+use Rattle.std.proofs.lemmas.Iterator.Search.{any_from_yields_List}
+use Rattle.page_table.specs.Stretches.{stretch, directory_word}
+use Rattle.reach.specs.Reach.{leads_to}
+use Rattle.reach.proofs.Searches.{directory-long, any_first}
 use Rattle.trees.specs.Trees.{names_table}
 use Rattle.trees.proofs.names_table.Goals as goal
 
-pub loop-j-init : goal.loop-j-init
-loop-j-init c = search-none _ _
-
-pub leads_to-requires : goal.leads_to-requires
-leads_to-requires c = tt
-
-pub returns-then-leads_to : goal.returns-then-leads_to
-unfolding names_table directory_word
-returns-then-leads_to c = search-found _ _ _ _ c.leads_to.ensures (omega arith) c.if-leads_to.true
-
-pub loop-j-preserved : goal.loop-j-preserved
-unfolding directory_word
-loop-j-preserved c = search-on _ _ _ _ c.leads_to.ensures (omega arith) c.loop-j.invariant c.if-leads_to.false
+pub slice_bounds-iter-end : goal.slice_bounds-iter-end
+slice_bounds-iter-end c =
+    let long = ap length c.directory.ensures ∙ directory-long _ _ c.requires.0 in
+    simp length-take (omega (arith, long))
 
 pub returns : goal.returns
-unfolding names_table
-returns c = search-all _ _ _ c.loop-j.invariant (omega arith)
+unfolding names_table directory_word
+returns c =
+    any_from_yields_List (λ w. leads_to (length c.args.words.now) 0 w c.args.table) _ _ _ c.any.ensures.ran
+    (YieldsList-from_slice (take c.args.n (stretch c.args.words.now 512 c.args.directory)) cc)
+    (λ x b q k. search (rules, tests))
+    ∙ any_first (λ w. leads_to (length c.args.words.now) 0 w c.args.table) _ _ _ c.requires.0 c.requires.1

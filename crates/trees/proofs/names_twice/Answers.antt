@@ -1,23 +1,27 @@
-use native.Mathlib.Omega.{arith}
-use Rattle.runs.proofs.Searches.{search-none, search-found, search-on, search-all}
+use Rattle.std.proofs.Common.{ℕ, List, ◌≡◌, ◌+◌, ◌*◌, length, get_or, refl, ap, rules, tests, ◌∙◌}
+use Rattle.std.proofs.lemmas.Iterator.{YieldsList-from_range, serves_from_Range}
+use Rattle.std.proofs.lemmas.Iterator.Search.{any_from_yields_List}
+use Rattle.runs.proofs.Counts.{any_same}
 use Rattle.page_table.specs.Stretches.{directory_word}
-use Rattle.trees.specs.Trees.{names_twice}
+use Rattle.reach.proofs.Searches.{any_numbers, directory-long, directory-at}
+use Rattle.trees.specs.Trees.{also_named, names_twice}
 use Rattle.trees.proofs.names_twice.Goals as goal
 
-pub loop-j-init : goal.loop-j-init
-loop-j-init c = search-none _ _
-
-pub also_named-requires : goal.also_named-requires
-also_named-requires c = (omega arith, omega arith)
-
-pub returns-then-also_named : goal.returns-then-also_named
-unfolding names_twice directory_word
-returns-then-also_named c = search-found _ _ _ _ c.also_named.ensures (omega arith) c.if-also_named.true
-
-pub loop-j-preserved : goal.loop-j-preserved
-unfolding directory_word
-loop-j-preserved c = search-on _ _ _ _ c.also_named.ensures (omega arith) c.loop-j.invariant c.if-also_named.false
+pub any-requires-clause-callable : goal.any-requires-clause-callable
+any-requires-clause-callable c =
+    let long : length c.directory-own.result.now ≡ 512 = ap length c.directory-own.ensures ∙ directory-long _ _ c.requires in
+    serves_from_Range (λ x q k. search rules) (λ x a b. search rules)
 
 pub returns : goal.returns
-unfolding names_twice
-returns c = search-all _ _ _ c.loop-j.invariant (omega arith)
+unfolding names_twice directory_word
+returns c =
+    let words = c.args.words.now in
+    let own = c.directory-own.result.now in
+    let d = c.args.directory in
+    any_from_yields_List (λ j. also_named words (get_or own j 0) d j) _ _ _ c.any.ensures.ran
+    (YieldsList-from_range 0 512 512 refl refl)
+    (λ x b q k. search (rules, tests))
+    ∙ any_numbers (λ j. also_named words (get_or own j 0) d j) 512
+    ∙ any_same (λ j. also_named words (get_or own j 0) d j) (λ j. also_named words (get_or words (512 * d + j) 0) d j) 512
+    (λ j l. ap (λ (w : ℕ). also_named words w d j)
+    (ap (λ (xs : List ℕ). get_or xs j 0) c.directory-own.ensures ∙ directory-at words d j l))

@@ -7,12 +7,12 @@ use Rattle.mmu_c.proofs.StartLaws.{short, long, refused, started}
 use Rattle.mmu_c.proofs.start.start_with.Goals as goal
 
 pub returns-then-not-long : goal.returns-then-not-long
-returns-then-not-long c = refused _ _ 1 _ (short _ _ c.if-not-long.true) (λ e. omega arith) c.refusal_answer.ensures
+returns-then-not-long c = refused _ _ 1 _ (short _ _ c.if-not-long.true) (λ e. omega arith) refl
 
 pub returns-then-not-buffer_taken : goal.returns-then-not-buffer_taken
 returns-then-not-buffer_taken c = refused _ _ 2 _
     (long _ _ 2 c.if-not-long.false (refuse-here _ _ _ _ c.buffer_taken.ensures (ap not c.if-not-buffer_taken.true)))
-    (λ e. omega arith) c.refusal_answer-then-not-buffer_taken.ensures
+    (λ e. omega arith) refl
 
 pub encode-requires : goal.encode-requires
 encode-requires c = omega (
