@@ -39,8 +39,8 @@ impl TryFrom<u32> for Operation {
 // How many virtual addresses there are.
 const ADDRESSES: u32 = 1 << 16;
 
-// Two words, or that the call is refused.
-type Called = Result<[u32; 2], Refusal>;
+// What a call answers: a value, with a map's faults; or that it is refused.
+type Called = Result<(u32, u32), Refusal>;
 
 // The virtual address that a word holds, modulo 65,536.
 fn address_of(word: u32) -> u16 {
@@ -65,13 +65,13 @@ fn write_state(output: &mut impl Write, state: State) {
 
 fn call_answer(called: Called, registers: Registers) -> Answer {
     match called {
-        Ok([first, second]) => answered(0, first, second, 0, registers),
+        Ok((value, faults)) => answered(0, value, faults, 0, registers),
         Err(refusal) => answered(1, refusal.into(), 0, 0, registers),
     }
 }
 
-fn word_answer(word: u16) -> [u32; 2] {
-    [u32::from(word), 0]
+fn word_answer(word: u16) -> (u32, u32) {
+    (u32::from(word), 0)
 }
 
 // A map; its mode is user + 2 x write.
@@ -83,7 +83,7 @@ fn map(entries: &[u32], state: State, address: u32, mode: u32) -> (Called, State
         mode % 2 == 1,
         (mode / 2) % 2 == 1,
     );
-    let answer = reply.answer.map(|m| [m.address, m.faults()]);
+    let answer = reply.answer.map(|m| (m.address, m.faults()));
     (answer, reply.state)
 }
 
@@ -97,9 +97,9 @@ fn call(operation: Operation, q: Request, state: State, entries: &mut [u32]) -> 
             state,
         ),
         Operation::FaultAddress => (Ok(word_answer(mups16::fault_address(state))), state),
-        Operation::SetTableIndex => (Ok([0, 0]), mups16::set_table_index(state, q.second)),
+        Operation::SetTableIndex => (Ok((0, 0)), mups16::set_table_index(state, q.second)),
         Operation::SetEntry => (
-            mups16::set_entry(entries, q.second, q.third).map(|()| [0, 0]),
+            mups16::set_entry(entries, q.second, q.third).map(|()| (0, 0)),
             state,
         ),
     }
