@@ -152,6 +152,9 @@ fn miss(i: u32) -> Access {
     reading(((64 + u64::from(i)) % 80) as u32, 0, (i / 16) % 4)
 }
 
+// Each scenario is a loop, no fold of a closure: a step is handed what the last one left, and lends the buffer and the words again. They and
+// the registers stay three parameters: the borrow checker does not cover a call that is lent two fields behind one reference.
+
 // Raw accesses. One that is refused ends them.
 fn run_raw(r: Registers, buffer: &[u64], count: u32) -> u64 {
     let mut registers = r;
@@ -349,8 +352,8 @@ fn run(r: Registers, buffer: &mut [u64], words: &mut [u32], scenario: Scenario, 
             let pool = fill_tables(r, buffer, words);
             run_passes(r, buffer, words, pool, ALL_PAGES, count)
         }
-        Scenario::TableIndexes => mups16_scenarios::run(9, count),
-        Scenario::Entries => mups16_scenarios::run(10, count),
+        Scenario::TableIndexes => mups16_scenarios::table_indexes(count),
+        Scenario::Entries => mups16_scenarios::entries(count),
     }
 }
 
