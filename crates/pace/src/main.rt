@@ -4,7 +4,7 @@
 
 mod mups16_scenarios;
 
-ghost use Rattle.std.specs.Prelude.{◌^◌, ◌<◌, ◌≤◌};
+ghost use Rattle.std.specs.Prelude.{◌<◌, ◌≤◌};
 ghost use Rattle.entry.specs.Address.{PAGE, PAGES};
 
 use collector::Collected;
@@ -53,24 +53,81 @@ const PAGES: u32 = 80;
 const ALL_PAGES: u32 = 4 * TABLE;
 
 // How many values the software bits of a leaf have, and what the lowest counts.
-const SOFTWARE: u64 = 512;
+const SOFTWARE: u32 = 512;
 
 const SOFTWARE_BIT: u32 = 1 << 19;
 
-// What an answer adds to the sum.
-fn worth(outcome: Outcome) -> u64 {
-    match outcome {
-        Outcome::At(address) => address as u64,
-        Outcome::Fault(value) => value as u64,
-        Outcome::Done(value) => value as u64 + 1,
-        Outcome::Refused(number) => 1000000 * number as u64,
+// What is measured, by its number in tests/PROTOCOL.md.
+#[derive(Clone, Copy, PartialEq, Eq)]
+enum Scenario {
+    RawAccesses,
+    Hits,
+    Misses,
+    Stores,
+    Looks,
+    Frames,
+    Maps,
+    Passes,
+    FullPasses,
+    TableIndexes,
+    Entries,
+}
+
+impl From<u32> for Scenario {
+    // A number above 10 is as 1.
+    fn from(number: u32) -> Scenario {
+        match number {
+            0 => Scenario::RawAccesses,
+            2 => Scenario::Misses,
+            3 => Scenario::Stores,
+            4 => Scenario::Looks,
+            5 => Scenario::Frames,
+            6 => Scenario::Maps,
+            7 => Scenario::Passes,
+            8 => Scenario::FullPasses,
+            9 => Scenario::TableIndexes,
+            10 => Scenario::Entries,
+            _ => Scenario::Hits,
+        }
     }
 }
 
-fn counted(sum: u64, reply: Reply) -> u64 {
-    let outcome = reply.outcome;
-    let more = worth(outcome).wrapping_add(reply.loads as u64);
-    sum.wrapping_add(more)
+// What an answer adds to the sum.
+trait Worth: Copy {
+    fn worth(self) -> u64;
+}
+
+impl Worth for Outcome {
+    fn worth(self) -> u64 {
+        match self {
+            Outcome::At(address) => u64::from(address),
+            Outcome::Fault(value) => u64::from(value),
+            Outcome::Done(value) => u64::from(value) + 1,
+            Outcome::Refused(number) => 1000000 * u64::from(number),
+        }
+    }
+}
+
+impl Worth for Reply {
+    fn worth(self) -> u64 {
+        self.outcome.worth().wrapping_add(u64::from(self.loads))
+    }
+}
+
+impl Worth for Mapped {
+    fn worth(self) -> u64 {
+        self.reply.worth().wrapping_add(u64::from(self.pfn))
+    }
+}
+
+impl Worth for Collected {
+    fn worth(self) -> u64 {
+        self.reply.worth().wrapping_add(u64::from(self.given))
+    }
+}
+
+fn added(sum: u64, answer: impl Worth) -> u64 {
+    sum.wrapping_add(answer.worth())
 }
 
 // A user's read of a page.
@@ -85,137 +142,118 @@ fn reading(page: u32, offset: u32, draw: u32) -> Access
     }
 }
 
-// Scenario 2 takes 80 pages in turn, so that each one misses; the others 64, which are all in the buffer.
-fn access_of(scenario: u32, i: u64) -> Access
-    requires { i < 2 ^ 32 }
-{
-    if scenario == 2 {
-        return reading(((64 + i) % 80) as u32, 0, ((i / 16) % 4) as u32);
-    }
-    reading(((7 * i) % 64) as u32, 291, 0)
+// A user's read in the 64 pages that are all in the buffer.
+fn hit(i: u32) -> Access {
+    reading(((7 * u64::from(i)) % 64) as u32, 291, 0)
 }
 
-fn address_of(physical: Option<u32>) -> u64 {
-    match physical {
-        Some(address) => address as u64,
-        None => 0,
-    }
+// A user's read of one of 80 pages in turn, so that each one misses.
+fn miss(i: u32) -> Access {
+    reading(((64 + u64::from(i)) % 80) as u32, 0, (i / 16) % 4)
 }
 
-// Scenario 0: raw accesses. One that is refused ends them.
+// Each scenario is a loop, no fold of a closure: a step is handed what the last one left, and lends the buffer and the words again. They and
+// the registers stay three parameters: the borrow checker does not cover a call that is lent two fields behind one reference.
+
+// Raw accesses. One that is refused ends them.
 fn run_raw(r: Registers, buffer: &[u64], count: u32) -> u64 {
     let mut registers = r;
     let mut sum: u64 = 0;
-    for i in 0..count as u64 {
-        let a = access_of(0, i);
+    for i in 0..count {
+        let a = hit(i);
         let reply = mmu::raw_access(registers, buffer, a.address, a.user, a.write, a.draw);
         let Ok(t) = reply else {
             return 0;
         };
-        let physical = t.physical;
-        sum = sum.wrapping_add(address_of(physical));
+        sum = sum.wrapping_add(u64::from(t.physical.unwrap_or(0)));
         registers = t.registers;
     }
     sum
 }
 
-// Scenarios 1 and 2: served accesses.
-fn run_served(r: Registers, buffer: &mut [u64], words: &[u32], scenario: u32, count: u32) -> u64 {
+// Served accesses.
+fn run_served<F: Fn(u32) -> Access>(
+    r: Registers,
+    buffer: &mut [u64],
+    words: &[u32],
+    count: u32,
+    access_of: F,
+) -> u64
+    requires { F.IsAlwaysCallable access_of }
+{
     let mut registers = r;
     let mut sum: u64 = 0;
-    for i in 0..count as u64 {
-        let a = access_of(scenario, i);
+    for i in 0..count {
+        let a = access_of(i);
         let reply = mmu::served_access(
             registers, buffer, words, a.address, a.user, a.write, a.draw,
         );
-        sum = counted(sum, reply);
+        sum = added(sum, reply);
         registers = reply.registers;
     }
     sum
 }
 
-// Scenario 3: stores that change software bits alone.
+// Stores that change software bits alone.
 fn run_stores(r: Registers, buffer: &mut [u64], words: &mut [u32], count: u32) -> u64 {
     let mut sum: u64 = 0;
-    for i in 0..count as u64 {
-        let page = (i % 64) as u32;
-        let software = ((i / 64) % SOFTWARE) as u32;
+    for i in 0..count {
+        let page = i % 64;
+        let software = (i / 64) % SOFTWARE;
         let value = FIRST_LEAF + page + software * SOFTWARE_BIT;
-        let reply = store::table_store(r, buffer, words, TABLE + page, value);
-        sum = counted(sum, reply);
+        sum = added(
+            sum,
+            store::table_store(r, buffer, words, TABLE + page, value),
+        );
     }
     sum
 }
 
-// What reads of TLB_HI and TLB_LO add to the sum.
-fn read_both(sum: u64, r: Registers, buffer: &[u64]) -> u64 {
-    let high = control::read_register(r, buffer, TLB_HI);
-    let registers = high.registers;
-    let low = control::read_register(registers, buffer, TLB_LO);
-    counted(counted(sum, high), low)
-}
-
-// Scenario 4: looks at one slot after the other.
+// Looks at one slot after the other: SELECT is written, and TLB_HI and TLB_LO are read.
 fn run_looks(r: Registers, buffer: &mut [u64], count: u32) -> u64 {
     let mut registers = r;
     let mut sum: u64 = 0;
-    for i in 0..count as u64 {
-        let selected = control::write_register(registers, buffer, SELECT, (i % 64) as u32);
-        registers = selected.registers;
-        sum = read_both(sum, registers, buffer);
+    for i in 0..count {
+        registers = control::write_register(registers, buffer, SELECT, i % 64).registers;
+        let high = control::read_register(registers, buffer, TLB_HI);
+        let low = control::read_register(high.registers, buffer, TLB_LO);
+        sum = added(added(sum, high), low);
     }
     sum
-}
-
-fn added(sum: u64, outcome: Outcome) -> u64 {
-    sum.wrapping_add(worth(outcome))
 }
 
 // A pool of 4,096 frames of which so many, the first ones, are held.
 fn held_pool(first: u32, held: u32) -> Pool {
-    let fresh = heap::new_pool(first, POOL);
-    let mut pool = fresh.pool;
+    let mut pool = heap::new_pool(first, POOL).pool;
     for _ in 0..held {
-        let taken = heap::take(pool);
-        pool = taken.pool;
+        pool = heap::take(pool).pool;
     }
     pool
 }
 
-// Scenario 5: a frame is given and taken again.
+// A frame is given and taken again.
 fn run_frames(count: u32) -> u64 {
     let mut pool = held_pool(FIRST_PFN, HELD);
     let mut sum: u64 = 0;
-    for i in 0..count as u64 {
-        let given = heap::give(pool, FIRST_PFN + ((7 * i) % WIDE_HELD) as u32);
-        let given_outcome = given.outcome;
-        pool = given.pool;
-        let taken = heap::take(pool);
-        let taken_outcome = taken.outcome;
+    for i in 0..count {
+        let place = ((7 * u64::from(i)) % WIDE_HELD) as u32;
+        let given = heap::give(pool, FIRST_PFN + place);
+        let taken = heap::take(given.pool);
         pool = taken.pool;
-        sum = added(added(sum, given_outcome), taken_outcome);
+        sum = added(added(sum, given.outcome), taken.outcome);
     }
     sum
 }
 
-// What a map adds to the sum.
-fn counted_map(sum: u64, mapped: Mapped) -> u64 {
-    let reply = mapped.reply;
-    counted(sum, reply).wrapping_add(mapped.pfn as u64)
-}
-
-// Scenario 6: a frame is mapped and given back.
+// A frame is mapped and given back.
 fn run_maps(r: Registers, buffer: &mut [u64], words: &mut [u32], count: u32) -> u64 {
     let mut pool = held_pool(FIRST_PFN, HELD);
     let mut sum: u64 = 0;
-    for i in 0..count as u64 {
-        let mapped = heap::map(r, buffer, words, pool, TABLE + (i % 64) as u32, LEAF);
-        sum = counted_map(sum, mapped);
-        pool = mapped.pool;
-        let given = heap::give(pool, mapped.pfn);
-        let outcome = given.outcome;
-        sum = added(sum, outcome);
+    for i in 0..count {
+        let mapped = heap::map(r, buffer, words, pool, TABLE + i % 64, LEAF);
+        let given = heap::give(mapped.pool, mapped.pfn);
         pool = given.pool;
+        sum = added(added(sum, mapped), given.outcome);
     }
     sum
 }
@@ -231,30 +269,23 @@ struct Going {
 fn map_pages(r: Registers, buffer: &mut [u64], words: &mut [u32], pages: u32, begun: Going) -> Going
     requires { pages ≤ 4096 }
 {
-    let mut sum = begun.sum;
-    let mut pool = begun.pool;
+    let mut going = begun;
     for page in 0..pages {
-        let mapped = heap::map(r, buffer, words, pool, TABLE + page, LEAF);
-        sum = counted_map(sum, mapped);
-        pool = mapped.pool;
+        let mapped = heap::map(r, buffer, words, going.pool, TABLE + page, LEAF);
+        going = Going {
+            sum: added(going.sum, mapped),
+            pool: mapped.pool,
+        };
     }
-    Going { sum, pool }
-}
-
-// What a pass adds to the sum.
-fn counted_pass(sum: u64, collected: Collected) -> u64 {
-    let reply = collected.reply;
-    counted(sum, reply).wrapping_add(collected.given as u64)
+    going
 }
 
 // A pass for identification 5.
 fn pass(r: Registers, buffer: &mut [u64], words: &mut [u32], begun: Going) -> Going {
-    let before = begun.pool;
-    let collected = collector::collect(r, buffer, words, before, 5);
-    let pool = collected.pool;
+    let collected = collector::collect(r, buffer, words, begun.pool, 5);
     Going {
-        sum: counted_pass(begun.sum, collected),
-        pool,
+        sum: added(begun.sum, collected),
+        pool: collected.pool,
     }
 }
 
@@ -272,7 +303,7 @@ fn map_again(r: Registers, buffer: &mut [u64], words: &mut [u32], pages: u32, be
     map_pages(r, buffer, words, pages, given)
 }
 
-// Scenarios 7 and 8: all pages go and come again.
+// All pages go and come again.
 fn run_passes(
     r: Registers,
     buffer: &mut [u64],
@@ -297,42 +328,33 @@ fn name_tables(r: Registers, buffer: &mut [u64], words: &mut [u32]) {
     }
 }
 
-// Scenario 8: four tables, and every page of them mapped; answers the pool after that.
+// Four tables, and every page of them mapped; answers the pool after that.
 fn fill_tables(r: Registers, buffer: &mut [u64], words: &mut [u32]) -> Pool {
     name_tables(r, buffer, words);
     let pool = held_pool(PAGE_PFN, 0);
-    let begun = Going { sum: 0, pool };
-    let mapped = map_pages(r, buffer, words, ALL_PAGES, begun);
-    mapped.pool
+    map_pages(r, buffer, words, ALL_PAGES, Going { sum: 0, pool }).pool
 }
 
-fn run(r: Registers, buffer: &mut [u64], words: &mut [u32], scenario: u32, count: u32) -> u64 {
-    if scenario == 0 {
-        return run_raw(r, buffer, count);
+fn run(r: Registers, buffer: &mut [u64], words: &mut [u32], scenario: Scenario, count: u32) -> u64 {
+    match scenario {
+        Scenario::RawAccesses => run_raw(r, buffer, count),
+        Scenario::Hits => run_served(r, buffer, words, count, hit),
+        Scenario::Misses => run_served(r, buffer, words, count, miss),
+        Scenario::Stores => run_stores(r, buffer, words, count),
+        Scenario::Looks => run_looks(r, buffer, count),
+        Scenario::Frames => run_frames(count),
+        Scenario::Maps => run_maps(r, buffer, words, count),
+        Scenario::Passes => {
+            let pool = held_pool(PAGE_PFN, PAGES);
+            run_passes(r, buffer, words, pool, PAGES, count)
+        }
+        Scenario::FullPasses => {
+            let pool = fill_tables(r, buffer, words);
+            run_passes(r, buffer, words, pool, ALL_PAGES, count)
+        }
+        Scenario::TableIndexes => mups16_scenarios::table_indexes(count),
+        Scenario::Entries => mups16_scenarios::entries(count),
     }
-    if scenario == 3 {
-        return run_stores(r, buffer, words, count);
-    }
-    if scenario == 4 {
-        return run_looks(r, buffer, count);
-    }
-    if scenario == 5 {
-        return run_frames(count);
-    }
-    if scenario == 6 {
-        return run_maps(r, buffer, words, count);
-    }
-    if scenario == 7 {
-        return run_passes(r, buffer, words, held_pool(PAGE_PFN, PAGES), PAGES, count);
-    }
-    if scenario == 8 {
-        let pool = fill_tables(r, buffer, words);
-        return run_passes(r, buffer, words, pool, ALL_PAGES, count);
-    }
-    if (scenario == 9) | (scenario == 10) {
-        return mups16_scenarios::run(scenario, count);
-    }
-    run_served(r, buffer, words, scenario, count)
 }
 
 // The tables of identification 5: a directory, a table, and 80 pages.
@@ -346,12 +368,11 @@ fn build(r: Registers, buffer: &mut [u64], words: &mut [u32]) {
 
 // CTRL 7, CONTEXT 5, ENABLE 1.
 fn settings(r: Registers) -> Registers {
-    let first = control::guarded_setting(r, 1, 7);
-    let controlled = first.registers;
-    let second = control::guarded_setting(controlled, 5, 5);
-    let switched = second.registers;
-    let third = control::guarded_setting(switched, 2, 1);
-    third.registers
+    let mut registers = r;
+    for (number, value) in [(1, 7), (5, 5), (2, 1)] {
+        registers = control::guarded_setting(registers, number, value).registers;
+    }
+    registers
 }
 
 // Pages 0 to 63, one in each slot.
@@ -368,18 +389,16 @@ fn fill(r: Registers, buffer: &mut [u64], words: &[u32]) -> Registers {
 }
 
 fn prepare(buffer: &mut [u64], words: &mut [u32]) -> Registers {
-    let started = control::start(buffer);
-    let r = started.registers;
+    let r = control::start(buffer).registers;
     build(r, buffer, words);
-    let enabled = settings(r);
-    fill(enabled, buffer, words)
+    fill(settings(r), buffer, words)
 }
 
 // What the input lacks counts as 0, and a sum that can't be written is lost.
 fn pace(input: &mut impl Read, output: &mut impl Write, buffer: &mut [u64], words: &mut [u32]) {
     let mut bytes = [0u8; 8];
     let _ = input.read_exact(&mut bytes);
-    let scenario = wire::read::<u32>(&bytes, 0);
+    let scenario = Scenario::from(wire::read::<u32>(&bytes, 0));
     let count = wire::read::<u32>(&bytes, 1);
     let r = prepare(buffer, words);
     let sum = run(r, buffer, words, scenario, count);

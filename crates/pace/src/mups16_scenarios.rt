@@ -74,17 +74,15 @@ fn run_entries(entries: &mut [u32], state: State, count: u32) -> u64 {
     sum
 }
 
-// Makes the calls of a scenario, 9 or 10, over entries that are all 0.
-fn run_over(entries: &mut [u32], scenario: u32, count: u32) -> u64 {
-    set_entries(entries);
-    let state = State::default();
-    if scenario == 9 {
-        return run_tables(entries, state, count);
-    }
-    run_entries(entries, state, count)
+// The scenarios make their calls over entries that are prepared.
+pub(crate) fn table_indexes(count: u32) -> u64 {
+    let mut entries = [0u32; ENTRIES as usize];
+    set_entries(&mut entries);
+    run_tables(&entries, State::default(), count)
 }
 
-pub(crate) fn run(scenario: u32, count: u32) -> u64 {
+pub(crate) fn entries(count: u32) -> u64 {
     let mut entries = [0u32; ENTRIES as usize];
-    run_over(&mut entries, scenario, count)
+    set_entries(&mut entries);
+    run_entries(&mut entries, State::default(), count)
 }

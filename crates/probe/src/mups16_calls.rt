@@ -1,14 +1,13 @@
 // Kind 15: a call of the MUPS/16 unit, whose entries are the table words.
-use crate::{Request, answered, bit, put, read_words, write_answer};
+use crate::answers::{Answer, answered};
+use crate::{Request, parts};
 use mups16::{Refusal, State};
 use registers::Registers;
 use std::io::{Read, Write};
 
-pub(crate) const KIND: u32 = 15;
-
 // The operations, by the numbers of the unit's own paper.
 #[derive(Clone, Copy, Debug, PartialEq, Eq)]
-enum Operation {
+pub(crate) enum Operation {
     Map,
     ReadLow,
     ReadHigh,
@@ -19,7 +18,7 @@ enum Operation {
 
 // A number that names no operation.
 #[derive(Clone, Copy, Debug, PartialEq, Eq)]
-struct UnknownOperation(u32);
+pub(crate) struct UnknownOperation(pub u32);
 
 impl TryFrom<u32> for Operation {
     type Error = UnknownOperation;
@@ -40,54 +39,33 @@ impl TryFrom<u32> for Operation {
 // How many virtual addresses there are.
 const ADDRESSES: u32 = 1 << 16;
 
-// How many bytes a state has.
-const STATE_BYTES: usize = 12;
-
-// What a call answers: two words, or that it is refused.
-type Answer = Result<(u32, u32), Refusal>;
-
-pub(crate) fn is_operation(number: u32) -> bool {
-    Operation::try_from(number).is_ok()
-}
+// What a call answers: a value, with a map's faults; or that it is refused.
+type Called = Result<(u32, u32), Refusal>;
 
 // The virtual address that a word holds, modulo 65,536.
 fn address_of(word: u32) -> u16 {
     (word % ADDRESSES) as u16
 }
 
-// Reads a state where the kind has one; none where the input ends before it.
-pub(crate) fn read_state(input: &mut impl Read, kind: u32) -> Option<State> {
-    if kind != KIND {
-        return Some(State::default());
-    }
-    let mut words = [0u32; 3];
-    let mut bytes = [0u8; STATE_BYTES];
-    if !read_words(input, &mut bytes, &mut words) {
-        return None;
-    }
+// Reads a state; none where the input ends before.
+pub(crate) fn read_state(input: &mut impl Read) -> Option<State> {
+    let [table_index, boot_mode, fault_address] = parts::read_part::<u32, 3>(input)?;
     Some(State {
-        table_index: words[0],
-        boot_mode: words[1] != 0,
-        fault_address: address_of(words[2]),
+        table_index,
+        boot_mode: boot_mode != 0,
+        fault_address: address_of(fault_address),
     })
 }
 
 fn write_state(output: &mut impl Write, state: State) {
-    let mut bytes = [0u8; STATE_BYTES];
-    wire::encode(
-        &[
-            state.table_index,
-            bit(state.boot_mode),
-            u32::from(state.fault_address),
-        ],
-        &mut bytes,
-    );
-    put(output, &bytes);
+    let boot_mode = u32::from(state.boot_mode);
+    let fault_address = u32::from(state.fault_address);
+    parts::write_run(output, &[state.table_index, boot_mode, fault_address]);
 }
 
-fn call_answer(answer: Answer, registers: Registers) -> crate::Answer {
-    match answer {
-        Ok((first, second)) => answered(0, first, second, 0, registers),
+fn call_answer(called: Called, registers: Registers) -> Answer {
+    match called {
+        Ok((value, faults)) => answered(0, value, faults, 0, registers),
         Err(refusal) => answered(1, refusal.into(), 0, 0, registers),
     }
 }
@@ -97,7 +75,7 @@ fn word_answer(word: u16) -> (u32, u32) {
 }
 
 // A map; its mode is user + 2 x write.
-fn map(entries: &[u32], state: State, address: u32, mode: u32) -> (Answer, State) {
+fn map(entries: &[u32], state: State, address: u32, mode: u32) -> (Called, State) {
     let reply = mups16::map(
         entries,
         state,
@@ -110,8 +88,7 @@ fn map(entries: &[u32], state: State, address: u32, mode: u32) -> (Answer, State
 }
 
 // Makes the call that an operation names: what it answers, and the state after it.
-fn call(operation: Operation, q: Request, entries: &mut [u32]) -> (Answer, State) {
-    let state = q.state;
+fn call(operation: Operation, q: Request, state: State, entries: &mut [u32]) -> (Called, State) {
     match operation {
         Operation::Map => map(entries, state, q.second, q.fourth),
         Operation::ReadLow => (mups16::read_low(entries, q.second).map(word_answer), state),
@@ -128,13 +105,15 @@ fn call(operation: Operation, q: Request, entries: &mut [u32]) -> (Answer, State
     }
 }
 
-// Makes a request's call over the entries, and writes the answer and the state after it. A number that names no operation is
-// not asked for: see `is_operation`.
-pub(crate) fn reply(output: &mut impl Write, q: Request, entries: &mut [u32]) {
-    let Ok(operation) = Operation::try_from(q.first) else {
-        return;
-    };
-    let (answer, after) = call(operation, q, entries);
-    write_answer(output, call_answer(answer, q.registers));
+// Makes a request's call over the entries, and writes the answer and the state after it.
+pub(crate) fn reply(
+    output: &mut impl Write,
+    q: Request,
+    operation: Operation,
+    state: State,
+    entries: &mut [u32],
+) {
+    let (called, after) = call(operation, q, state, entries);
+    call_answer(called, q.registers).write(output);
     write_state(output, after);
 }

@@ -3,7 +3,7 @@ use Prim.Native.Nat.{ℕ, suc, ◌+◌, ◌*◌, ◌≤◌, ◌<◌}
 use mathlib.Core.Path.{◌≡◌, refl, sym, ap, ◌∙◌}
 use mathlib.Core.Logic.{⊎_elim}
 use mathlib.Core.List.{List, ◌++◌}
-use native.Mathlib.Nat.{le_of_suc-le-suc, eq-or-lt_of_le, zero-add, mul-zero, mul-suc, mul_comm, mul-le-mul_left}
+use native.Mathlib.Nat.{le_of_suc-le-suc, eq-or-lt_of_le, zero-add, mul-suc, mul_comm, mul-le-mul_left}
 use native.Mathlib.Numerals.{add-one}
 use native.Mathlib.Omega.{arith}
 use lib.ListN.{length, get_or, set, take, drop, length-set}
@@ -20,9 +20,6 @@ module _ (f : ℕ → ℕ) where
     pub some : i ≤ n
     pub long : length xs ≡ n
     pub each : (j : ℕ) → j < i → get_or xs j 0 ≡ f j
-
-  pub filled_none : (n : ℕ) (xs : List ℕ) → length xs ≡ n → Filled n xs 0
-  filled_none n xs e = record { some = omega arith; long = e; each = λ j l. absurd (omega arith) }
 
   pub filled_more : (n : ℕ) (xs : List ℕ) (i v : ℕ) → Filled n xs i → i < n → v ≡ f i → Filled n (set xs i v) (i + 1)
   filled_more n xs i v r l e =
@@ -50,9 +47,6 @@ module _ (w : ℕ) (xs first : List ℕ) where
     pub room : length first ≡ w * length xs
     pub long : length bytes ≡ w * length xs
     pub same : bytes ≡ flat (bytes_of w) (take i xs) ++ drop (w * i) first
-
-  pub encoded-none : length first ≡ w * length xs → Encoded first 0
-  encoded-none e = record { some = omega arith; room = e; long = e; same = rw mul-zero }
 
   pub encoded-more : (bytes : List ℕ) (i : ℕ) → Encoded bytes i → i < length xs → Encoded (with_element w bytes i (get_or xs i 0)) (i + 1)
   encoded-more bytes i r l =
