@@ -12,6 +12,7 @@ ghost use Rattle.access.specs.Translation.{with_cause};
 
 use entry::Entry;
 use registers::{Access, Registers};
+use tlb::Hits;
 
 // The exception value of a miss.
 pub const MISS: u32 = 8;
@@ -63,6 +64,8 @@ fn linear_address(lo: u32, hi: u32, address: u32) -> u32
     base * SEGMENT + address % SEGMENT
 }
 
+// The three bits of CTRL stay functions of their own: one with a place is no plainer, since each is one line under the reference's name.
+
 // CTRL's bit 2.
 fn inv_exc(ctrl: u32) -> bool
     ensures { result ≡ inv_exc ctrl }
@@ -84,19 +87,13 @@ fn we_exc(ctrl: u32) -> bool
     ctrl % 2 == 1
 }
 
-fn bit(flag: bool) -> u32
-    ensures { (result ≡ bit flag) × (result ≤ 1) }
-{
-    flag as u32
-}
-
 // Write error 1, access violation 2, invalid page 4, added up.
 fn exception_value(ctrl: u32, a: Access, f: Entry) -> u32
     ensures { (result ≡ exception_value ctrl a f.valid f.kernel f.we) × (result < 8) }
 {
-    let write_error = bit(a.write & !f.we & we_exc(ctrl));
-    let access_violation = bit(a.user & f.kernel & acc_exc(ctrl));
-    let invalid_page = bit(!f.valid & inv_exc(ctrl));
+    let write_error = u32::from(a.write & !f.we & we_exc(ctrl));
+    let access_violation = u32::from(a.user & f.kernel & acc_exc(ctrl));
+    let invalid_page = u32::from(!f.valid & inv_exc(ctrl));
     write_error + 2 * access_violation + 4 * invalid_page
 }
 
@@ -138,7 +135,14 @@ fn exception_address(r: Registers, a: Access, tested: Option<u32>) -> Option<u32
     tested
 }
 
-fn exception_answer(r: Registers, a: Access, slot: u32, value: u32, tested: Option<u32>) -> Translation
+// The arguments are those of the definition. A struct of them is no plainer: it would be made and taken apart at each call.
+fn exception_answer(
+    r: Registers,
+    a: Access,
+    slot: u32,
+    value: u32,
+    tested: Option<u32>,
+) -> Translation
     requires { (r.context < 64) × (value < 16) }
     ensures { result ≡ exception_answer r a slot value tested }
 {
@@ -175,19 +179,20 @@ fn page_mapped(r: Registers, buffer: &[u64], a: Access) -> Translation
     ensures { result ≡ page_mapped r (Buffer.Wide buffer.now) a }
 {
     let vpn = entry::vpn_of(a.address);
-    let found = tlb::search(buffer, inv_exc(r.ctrl), r.context, vpn, a.draw);
-    let hits = found.count;
-    if hits == 0 {
-        let drawn = entry::slot_of(a.draw, vpn);
-        return exception_answer(r, a, drawn, MISS, None);
+    let Hits { count, lowest } = tlb::search(buffer, inv_exc(r.ctrl), r.context, vpn);
+    match lowest {
+        None => {
+            let drawn = entry::slot_of(a.draw, vpn);
+            exception_answer(r, a, drawn, MISS, None)
+        }
+        Some(set) if count == 1 => {
+            let slot = entry::slot_of(set, vpn);
+            let e = slots::slot_at(buffer, slot);
+            let f = entry::unpack(e);
+            on_hit(r, a, slot, f)
+        }
+        Some(_) => exception_answer(r, a, r.select, 0, None),
     }
-    if hits == 1 {
-        let slot = entry::slot_of(found.set, vpn);
-        let e = slots::slot_at(buffer, slot);
-        let f = entry::unpack(e);
-        return on_hit(r, a, slot, f);
-    }
-    exception_answer(r, a, r.select, 0, None)
 }
 
 // The raw access in document 01's three steps.

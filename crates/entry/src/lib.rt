@@ -48,6 +48,8 @@ pub fn page_id_of(e: u64) -> u32
     ((e >> 23) % 64) as u32
 }
 
+// One function with a place for bits 22 and 21 is no plainer: each is one line, under the field's name.
+
 // Bit 22.
 pub fn is_global(e: u64) -> bool
     ensures { result ≡ (unpack e).global }

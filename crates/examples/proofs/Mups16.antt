@@ -12,5 +12,7 @@ use Rattle.examples.specs.Claims.{Values, all_computed, all_owed}
 use Rattle.examples.specs.Mups16.{kept, answered, refused, one, full, page, maps, reads, sets, faults, mups16}
 
 pub mups16-hold : all_computed mups16 ≡ all_owed mups16
-unfolding refusal_of by_entries entries_fit mapping_of map_reply read_low read_high set_answer entries_after_set state_left last_state event_of history_of any_fault fault_in fault_by last_fault Values all_computed all_owed kept answered refused one full page maps reads sets faults mups16
+unfolding refusal_of by_entries entries_fit mapping_of map_reply read_low read_high set_answer entries_after_set state_left last_state
+    event_of history_of any_fault fault_in fault_by last_fault Values all_computed all_owed kept answered refused one full page maps reads
+    sets faults mups16
 mups16-hold = refl

@@ -82,10 +82,9 @@ pub fn take(mut pool: Pool) -> PoolReply
     if !frames_fit(pool.first, pool.size) {
         return refused_pool(Refusal::Pool, pool);
     }
-    let place = lowest_free(&pool.bits, pool.size);
-    if place == pool.size {
+    let Some(place) = lowest_free(&pool.bits, pool.size) else {
         return refused_pool(Refusal::Full, pool);
-    }
+    };
     flip(&mut pool.bits, place);
     let pfn = pool.first + place;
     PoolReply {

@@ -74,9 +74,8 @@ pub fn map(
     if let Err(refusal) = store::store_refusal(r, buffer, words, index) {
         return refused_map(r, refusal, pool);
     }
-    let place = lowest_free(&pool.bits, pool.size);
-    if place == pool.size {
+    let Some(place) = lowest_free(&pool.bits, pool.size) else {
         return refused_map(r, Refusal::Full, pool);
-    }
+    };
     map_frame(r, buffer, words, pool, place, index, leaf)
 }

@@ -4,7 +4,8 @@ ghost use Rattle.line.specs.Text.{decimal, decimal_length, digits, hex};
 ghost use Rattle.line.specs.Text as text;
 ghost use Rattle.line.specs.Writing.{Grows, HasRoom};
 
-// A run with a text at its start, of so many bytes.
+// A run with a text at its start, of so many bytes. std's writers over a slice don't serve: no clause says which bytes `write_all` and `write!`
+// leave there, and each answers a Result.
 #[derive(Drop)]
 pub struct Text<'a> {
     pub bytes: &'a mut [u8],
@@ -66,7 +67,7 @@ fn fill_digits(part: &mut [u8], base: u64, n: u64)
     }
 }
 
-// How many decimal digits a number has.
+// How many decimal digits a number has. The loop is a `while`, since std has no `ilog10` here.
 fn decimal_length(n: u64) -> usize
     ensures { (result ≡ decimal_length n) × (result ≤ 20) }
 {

@@ -154,11 +154,9 @@ fn fetch(buffer: &[u8], slots: &mut [u64], vpn: u32)
     requires { (length buffer.now ≡ BUFFER_BYTES) × (length slots.old ≡ 64) }
     ensures { Fetched buffer.now slots.new vpn }
 {
-    let mut set: u32 = 0;
-    while set < 4 {
+    for set in 0..4 {
         let slot = entry::slot_of(set, vpn) as usize;
         slots[slot] = wire::read(buffer, slot);
-        set += 1;
     }
 }
 

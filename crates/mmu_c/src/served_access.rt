@@ -35,11 +35,9 @@ fn put_back(slots: &[u64], buffer: &mut [u8], vpn: u32)
     requires { (length slots.now ≡ 64) × (length buffer.old ≡ BUFFER_BYTES) }
     ensures { buffer.new ≡ put_back slots.now vpn 4 buffer.old }
 {
-    let mut set: u32 = 0;
-    while set < 4 {
+    for set in 0..4 {
         let slot = entry::slot_of(set, vpn) as usize;
         wire::write(buffer, slot, slots[slot]);
-        set += 1;
     }
 }
 

@@ -19,6 +19,7 @@ impl From<Refusal> for u32 {
     }
 }
 
+// A call's `?`, where the lent run doesn't become one of 8,192 entries.
 impl From<TryFromSliceError> for Refusal {
     ghost from_gives = { λ _ refusal. refusal ≡ WrongLength };
 

@@ -18,6 +18,7 @@ pub fn set_table_index(state: State, index: u32) -> State
 pub fn set_entry(entries: &mut [u32], entry_address: u32, e: u32) -> Result<(), Refusal>
     ensures { SetEntryGives entries.old entry_address e entries.new result }
 {
+    // Not by `try_from`, as in the reads: its contract leaves open what the lent run ends as.
     let Some(entries): Option<&mut Entries> = entries.as_mut_array() else {
         return Err(Refusal::WrongLength);
     };

@@ -44,7 +44,7 @@ const ADDRESSES: u32 = 1 << 16;
 const STATE_BYTES: usize = 12;
 
 // What a call answers: two words, or that it is refused.
-type Answer = Result<[u32; 2], Refusal>;
+type Answer = Result<(u32, u32), Refusal>;
 
 pub(crate) fn is_operation(number: u32) -> bool {
     Operation::try_from(number).is_ok()
@@ -78,7 +78,7 @@ fn write_state(output: &mut impl Write, state: State) {
         &[
             state.table_index,
             bit(state.boot_mode),
-            state.fault_address as u32,
+            u32::from(state.fault_address),
         ],
         &mut bytes,
     );
@@ -87,13 +87,13 @@ fn write_state(output: &mut impl Write, state: State) {
 
 fn call_answer(answer: Answer, registers: Registers) -> crate::Answer {
     match answer {
-        Ok([first, second]) => answered(0, first, second, 0, registers),
+        Ok((first, second)) => answered(0, first, second, 0, registers),
         Err(refusal) => answered(1, refusal.into(), 0, 0, registers),
     }
 }
 
-fn word_answer(word: u16) -> [u32; 2] {
-    [u32::from(word), 0]
+fn word_answer(word: u16) -> (u32, u32) {
+    (u32::from(word), 0)
 }
 
 // A map; its mode is user + 2 x write.
@@ -105,7 +105,7 @@ fn map(entries: &[u32], state: State, address: u32, mode: u32) -> (Answer, State
         mode % 2 == 1,
         (mode / 2) % 2 == 1,
     );
-    let answer = reply.answer.map(|m| [m.address, m.faults()]);
+    let answer = reply.answer.map(|m| (m.address, m.faults()));
     (answer, reply.state)
 }
 
@@ -120,15 +120,16 @@ fn call(operation: Operation, q: Request, entries: &mut [u32]) -> (Answer, State
             state,
         ),
         Operation::FaultAddress => (Ok(word_answer(mups16::fault_address(state))), state),
-        Operation::SetTableIndex => (Ok([0, 0]), mups16::set_table_index(state, q.second)),
+        Operation::SetTableIndex => (Ok((0, 0)), mups16::set_table_index(state, q.second)),
         Operation::SetEntry => (
-            mups16::set_entry(entries, q.second, q.third).map(|()| [0, 0]),
+            mups16::set_entry(entries, q.second, q.third).map(|()| (0, 0)),
             state,
         ),
     }
 }
 
-// Makes a request's call over the entries, and writes the answer and the state after it. Its operation is one.
+// Makes a request's call over the entries, and writes the answer and the state after it. A number that names no operation is
+// not asked for: see `is_operation`.
 pub(crate) fn reply(output: &mut impl Write, q: Request, entries: &mut [u32]) {
     let Ok(operation) = Operation::try_from(q.first) else {
         return;

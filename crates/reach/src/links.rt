@@ -12,7 +12,7 @@ pub(crate) fn reached_beside(words: &[u32], root: u32, directory: u32) -> bool
         & crate::leads_to(words.len(), 1, words[r as usize], directory as usize))
 }
 
-// One more, or one fewer.
+// One more, or one fewer. Which way is a bool, and no enum: the contract of shift_root says the other way by `not`.
 fn step(n: u32, up: bool) -> u32
     requires { Steps up n }
     ensures { result ≡ stepped up n }

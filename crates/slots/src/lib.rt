@@ -1,5 +1,5 @@
 // The translation buffer, a lent run of 64 numbers: one slot read, one slot replaced, all slots made empty.
-#![tactic(auto)]
+#![tactic(auto, unfolding(crate::specs::Buffer::buffer_fits, crate::specs::Buffer::slot_at, crate::specs::Buffer::with_slot))]
 
 ghost use Rattle.std.specs.Prelude.{true, ◌≡◌, ◌<◌, ◌^◌, length, replicate};
 ghost use Rattle.slots.specs.Buffer.{Buffer, buffer_fits, slot_at, with_slot};
@@ -31,29 +31,14 @@ pub fn put_slot(buffer: &mut [u64], slot: u32, e: u64)
     buffer[slot as usize] = e % BIT_44;
 }
 
-// Every number of a part becomes e.
-fn fill(part: &mut [u64], e: u64)
-    ensures { part.new ≡ replicate (length part.old) e }
-{
-    let n = part.len();
-    let mut i: usize = 0;
-    while i < n {
-        part[i] = e;
-        i += 1;
-    }
-}
-
-// Makes every slot empty: each set's sixteen slots, a part that begins at 16 times the set number, are lent to `fill`.
+// Makes every slot empty: a set's sixteen slots begin at 16 times the set number.
 pub fn empty_slots(buffer: &mut [u64])
     requires { buffer_fits (Buffer.Wide buffer.old) ≡ true }
     ensures { Buffer.Wide buffer.new ≡ start_buffer (Buffer.Wide buffer.old) }
 {
-    let mut set: u32 = 0;
-    while set < 4 {
+    for set in 0..4 {
         let from = 16 * set as usize;
-        let to = from + 16;
         let e = entry::empty_entry(set);
-        fill(&mut buffer[from..to], e);
-        set += 1;
+        buffer[from..from + 16].fill(e);
     }
 }

@@ -6,7 +6,7 @@ ghost use Rattle.streams.specs.Filling.{Fills};
 use crate::{Filled, Stop};
 use std::io::Read;
 
-// Reads until the run is full, the input ends or a read fails.
+// Reads until the run is full, the input ends or a read fails. std's `read_exact` does not answer how many bytes it read.
 pub fn fill<R: Read>(reader: &mut R, run: &mut [u8]) -> Filled
     ensures fills { Fills (length run.new) result }
     ensures taken { Consumes (R.remaining reader.old) (R.remaining reader.new) (take result.length run.new) }

@@ -3,3 +3,4 @@ pub mod HitLaws
 pub mod Formula
 pub mod Loads
 pub mod Locations
+pub mod Found

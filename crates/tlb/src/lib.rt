@@ -3,7 +3,7 @@
 
 mod hit;
 
-ghost use Rattle.std.specs.Prelude.{true, ◌≡◌, ◌<◌};
+ghost use Rattle.std.specs.Prelude.{true, ℕ, ◌≡◌, ◌<◌, ◌↔◌, None, unwrap_or};
 ghost use Rattle.slots.specs.Buffer.{Buffer, buffer_fits};
 ghost use Rattle.tlb.specs.Search.{Searched};
 ghost use Rattle.tlb.specs.Load.{LoadGives};
@@ -14,27 +14,26 @@ use crate::hit::hit;
 #[derive(Clone, Copy)]
 pub struct Hits {
     pub count: u32,
-    pub set: u32,
+    pub lowest: Option<u32>,
 }
 
-// Looks at the page's slot in each set, from the last set down. With no hit the set answered is `otherwise`.
-pub fn search(buffer: &[u64], inv_exc: bool, context: u32, vpn: u32, otherwise: u32) -> Hits
+// Looks at the page's slot in each set.
+pub fn search(buffer: &[u64], inv_exc: bool, context: u32, vpn: u32) -> Hits
     requires { buffer_fits (Buffer.Wide buffer.now) ≡ true }
-    ensures { Searched (Buffer.Wide buffer.now) inv_exc context vpn otherwise result.count result.set }
+    ensures none { result.lowest ≡ None ↔ result.count ≡ 0 }
+    ensures found { (otherwise : ℕ) → Searched (Buffer.Wide buffer.now) inv_exc context vpn otherwise result.count (unwrap_or result.lowest otherwise) }
 {
     let mut count: u32 = 0;
-    let mut set = otherwise;
-    let mut left: u32 = 4;
-    while 0 < left {
-        left -= 1;
-        let slot = entry::slot_of(left, vpn);
+    let mut lowest = None;
+    for set in 0..4 {
+        let slot = entry::slot_of(set, vpn);
         let e = slots::slot_at(buffer, slot);
         if hit(inv_exc, vpn, context, e) {
             count += 1;
-            set = left;
+            lowest = lowest.or(Some(set));
         }
     }
-    Hits { count, set }
+    Hits { count, lowest }
 }
 
 // Stores an entry for a page and answers the slot: the lowest of the page's four that is the page's already, whatever its valid bit,
@@ -43,8 +42,9 @@ pub fn load(buffer: &mut [u64], context: u32, vpn: u32, draw: u32, e: u64) -> u3
     requires { (buffer_fits (Buffer.Wide buffer.old) ≡ true) × (draw < 4) }
     ensures { LoadGives (Buffer.Wide buffer.old) (Buffer.Wide buffer.new) context vpn draw e result }
 {
-    let found = search(buffer, true, context, vpn, draw);
-    let slot = entry::slot_of(found.set, vpn);
+    let found = search(buffer, true, context, vpn);
+    let home = found.lowest.unwrap_or(draw);
+    let slot = entry::slot_of(home, vpn);
     slots::put_slot(buffer, slot, e);
     slot
 }

@@ -9,7 +9,8 @@ use registers::Registers;
 use std::io::{Read, Write};
 use streams::fill;
 
-// Reads a block, makes its calls and writes its lines, from a record number on.
+// Reads a block, makes its calls and writes its lines, from a record number on. The four lent runs stay parameters: as a struct, each function
+// would promise besides that the four stay the same, and say no less otherwise.
 pub(crate) fn run_block<R: Read, W: Write>(
     reader: &mut R,
     writer: &mut W,
@@ -35,7 +36,7 @@ pub(crate) fn run_block<R: Read, W: Write>(
     let written = writer.write_all(&out[..length]).is_ok();
     Block {
         registers,
-        number: number + (read as u64 + 7) / 8,
+        number: number + (read as u64).div_ceil(8),
         read,
         length,
         written,

@@ -7,18 +7,18 @@ pub loop-set-init : goal.loop-set-init
 loop-set-init c = fetch-none _ _ _ c.requires.1
 
 pub read-requires : goal.read-requires
-read-requires c = let l = slot-inside _ _ _ c.slot_of-slot.ensures c.loop-set-test.true in omega
+read-requires c = let l = slot-inside _ _ _ c.slot_of-slot.ensures (omega arith) in omega
     (arith, c.requires.0)
 
 pub offset_bounds-slots-slot : goal.offset_bounds-slots-slot
-offset_bounds-slots-slot c = let l = slot-inside _ _ _ c.slot_of-slot.ensures c.loop-set-test.true in omega arith
+offset_bounds-slots-slot c = let l = slot-inside _ _ _ c.slot_of-slot.ensures (omega arith) in omega arith
 
 pub bounds-slots-slot : goal.bounds-slots-slot
-bounds-slots-slot c = let l = slot-inside _ _ _ c.slot_of-slot.ensures c.loop-set-test.true in omega
+bounds-slots-slot c = let l = slot-inside _ _ _ c.slot_of-slot.ensures (omega arith) in omega
     (arith, c.loop-set.invariant.long)
 
 pub loop-set-preserved : goal.loop-set-preserved
-loop-set-preserved c = fetch-more _ _ _ _ _ _ c.loop-set.invariant c.loop-set-test.true
+loop-set-preserved c = fetch-more _ _ _ _ _ _ c.loop-set.invariant (omega arith)
     c.slot_of-slot.ensures c.read.ensures.number c.read.ensures.bytes
 
 pub shape_of-slots : goal.shape_of-slots

@@ -1,5 +1,5 @@
 use native.Mathlib.Omega.{arith}
-use mathlib.Core.Path.{refl, sym, ◌∙◌}
+use mathlib.Core.Path.{sym, ◌∙◌}
 use Rattle.line.proofs.LineLaws.{long-le}
 use Rattle.rows.proofs.RowLaws.{behind-room, single-put}
 use Rattle.rows.proofs.put_single.Goals as goal

@@ -1,39 +1,36 @@
-use Prim.Native.Nat.{ℕ, ◌<◌}
-use native.Mathlib.Omega.{arith}
-use mathlib.Core.Path.{sym, subst, ◌∙◌}
-use Rattle.runs.proofs.Turns.{begin, turn-hit, turn-miss, finish}
+use Rattle.std.proofs.Common.{◌≡◌, ◌∙◌, arith}
 use Rattle.entry.proofs.Fields.{slot_lt}
 use Rattle.tlb.specs.Search.{hit_count, hit_set}
+use Rattle.tlb.proofs.Found.{found_none, found_hit, found_miss}
 use Rattle.tlb.proofs.HitLaws.{set_told}
 use Rattle.tlb.proofs.search.Goals as goal
+use Rattle.tlb.proofs.search.Goals.{then-hit, else-hit}
 
-pub loop-left-init : goal.loop-left-init
-unfolding hit_count hit_set
-loop-left-init c = (c.requires, begin _ 4 _)
+pub loop-set-init : goal.loop-set-init
+loop-set-init c = found_none _
 
 pub slot_at-e-requires : goal.slot_at-e-requires
-slot_at-e-requires c = (c.loop-left.invariant.0, subst (λ (n : ℕ). n < 64) (sym c.slot_of-slot.ensures) (slot_lt _ _ (omega arith)))
+slot_at-e-requires c = (c.requires, rw c.slot_of-slot.ensures (slot_lt _ _ (omega arith)))
 
-pub hit-requires : goal.hit-requires
-hit-requires c = tt
+pub overflow_add-count : goal.overflow_add-count
+overflow_add-count c = omega (arith, c.loop-set.invariant.at_most)
 
-pub loop-left-preserved-then-hit : goal.loop-left-preserved-then-hit
-loop-left-preserved-then-hit c = (
-  c.loop-left.invariant.0,
-  turn-hit _ _ _ _ _ _ _
-      c.loop-left.invariant.1 (omega arith)
-      (set_told _ _ _ _ _ _ _ _ c.slot_of-slot.ensures c.slot_at-e.ensures
-      c.hit.ensures ∙ c.if-hit.true),
-)
-
-pub loop-left-preserved : goal.loop-left-preserved
-loop-left-preserved c = (
-  c.loop-left.invariant.0,
-  turn-miss _ _ _ _ _ _ _
-      c.loop-left.invariant.1 (omega arith)
-      (set_told _ _ _ _ _ _ _ _ c.slot_of-slot.ensures c.slot_at-e.ensures
-      c.hit.ensures ∙ c.if-hit.false),
-)
+pub loop-set-preserved : goal.loop-set-preserved
+loop-set-preserved c =
+    let told = set_told _ _ _ _ _ _ _ _ c.slot_of-slot.ensures c.slot_at-e.ensures c.hit.ensures in
+    elim c.if-hit.branch [
+      | then-hit w ↦ rw (w.count-is, w.lowest-is, w.or-lowest.ensures) (found_hit _ _ _ _ c.loop-set.invariant (told ∙ w.if-hit.true))
+      | else-hit w ↦ rw (w.count-is, w.lowest-is) (found_miss _ _ _ _ c.loop-set.invariant (told ∙ w.if-hit.false))
+    ]
 
 pub returns : goal.returns
-returns c = let f = finish _ _ _ _ _ _ _ c.loop-left.invariant.1 (omega arith) in record { count-is = f.0; set_is = f.1 }
+unfolding hit_count hit_set
+returns c =
+    let four : c.loop-set.set ≡ 4 = omega (arith, c.loop-set.auto.set-end, c.loop-set-test.false) in
+    record {
+      none = c.loop-set.invariant.none;
+      found = λ otherwise. record {
+        count-is = rw (← four) c.loop-set.invariant.counted;
+        set_is = rw (← four) (c.loop-set.invariant.least otherwise);
+      };
+    }

@@ -1,8 +1,6 @@
 use mir.Syntax.{w64}
 use mir.ValLaws.{to_z-of_z}
-use native.Mathlib.Omega.{arith}
 use Rattle.line.specs.Text.{ascii}
-use Rattle.line.proofs.TextLaws.{put-length}
 use Rattle.rows.proofs.RowLaws.{total-put, space-room}
 use Rattle.rows.proofs.row.put_total.Goals as goal
 

@@ -1,3 +1,4 @@
+use native.Mathlib.Omega.{arith}
 use Rattle.tracing.proofs.BlockLaws.{lines_fit, block-gives}
 use Rattle.tracing.proofs.blocks.run_block.Goals as goal
 
@@ -6,4 +7,4 @@ run-ran-requires g c = lines_fit _ c.args.input.now c.args.out.now _ _ c.fill-fi
 
 pub returns-clause-block : goal.returns-clause-block
 returns-clause-block g c =
-    block-gives _ _ _ _ c.args.input.now _ _ _ _ _ _ c.fill-filled.ensures.fills.fits c.fill-filled.auto.run c.requires.0.0 c.run-ran.ensures.lines
+    block-gives _ _ _ _ _ c.args.input.now _ _ _ _ _ _ (omega (arith, c.div_ceil.ensures)) c.fill-filled.ensures.fills.fits c.fill-filled.auto.run c.requires.0.0 c.run-ran.ensures.lines
