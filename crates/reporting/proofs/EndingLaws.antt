@@ -1,14 +1,11 @@
 -- How a file ended, and the lines of an ending. Assumes nothing.
 use Prim.Native.Nat.{ℕ}
-use mathlib.Core.Path.{◌≡◌, refl, sym, subst}
-use mathlib.Core.Bool.{Bool, true, false}
+use mathlib.Core.Path.{◌≡◌, sym, subst}
 use mathlib.Core.List.{List}
 use lib.IntN.{ℤ}
-use Rattle.runs.proofs.Bools.{clash}
 use Rattle.line.specs.Text.{TextPut}
-use Rattle.reporting.specs.Endings.{ending_of, ending_text}
+use Rattle.reporting.specs.Endings.{ending_text}
 use Rattle.reporting.specs.declared.Ending.{Ending}
-use Rattle.reporting.specs.declared.Ending.TheVariants.{Unread, Refused, Whole}
 
 -- the lines of an ending
 module _ (out : List ℕ) (number : ℕ) (totals : List ℤ) (ending : Ending) (n : ℕ) (after : List ℕ) where

@@ -1,4 +1,4 @@
-use Rattle.std.proofs.Common.{arith, refl, sym, ◌∙◌}
+use Rattle.std.proofs.Common.{refl, sym}
 use Rattle.reporting.proofs.ReplayLaws.{ready-first, from_start}
 use Rattle.reporting.proofs.ReportLaws.{file-gives}
 use Rattle.reporting.proofs.lines.put_open.Goals as goal
