@@ -10,7 +10,8 @@ loop-i-init c = (running_none _ _ _ _ _, refl, refl, refl)
 pub put_line-requires : goal.put_line-requires
 unfolding record_count
 put_line-requires c =
-    running-room _ _ _ _ _ _ _ _ _ c.loop-i.invariant.0 (omega arith) (omega (arith, c.div_ceil-count.ensures, c.requires.0))
+    let room = running-room _ _ _ _ _ _ _ _ _ c.loop-i.invariant.0 (omega arith) (omega (arith, c.div_ceil-count.ensures, c.requires.0)) in
+    omega (arith, room)
 
 pub loop-i-preserved : goal.loop-i-preserved
 unfolding record_count
