@@ -54,8 +54,8 @@ end-levels words vpn (suc n) at =
     go false below = omega arith
 
 -- so of a tree's walk, as the code has it
-pub tree-fits : (words : List ℕ) (vpn root : ℕ) (end : End) → end ≡ end_read words vpn 2 root → end.levels ≤ 2
-tree-fits words vpn root end ends = omega (arith, ap (λ (e : End). e.levels) ends, end-levels words vpn 2 root)
+pub tree-fits : (words : List ℕ) (vpn levels root : ℕ) (end : End) → levels ≤ 2 → end ≡ end_read words vpn levels root → end.levels ≤ 2
+tree-fits words vpn levels root end l ends = omega (arith, ap (λ (e : End). e.levels) ends, end-levels words vpn levels root)
 
 pub tree-ends : (words : List ℕ) (vpn root : ℕ) (end : End) → end ≡ end_read words vpn 2 root
     → (global : Bool) (r : Walk) → r ≡ ending global end → r ≡ walk_tree words vpn global root

@@ -16,7 +16,7 @@ pub overflow_add-result : goal.overflow_add-result
 overflow_add-result c = omega (arith, bytes_inside _ _ _ c.requires)
 
 pub slice_bounds-result-end : goal.slice_bounds-result-end
-slice_bounds-result-end c = bytes_inside _ _ _ c.requires
+slice_bounds-result-end c = omega (arith, bytes_inside _ _ _ c.requires)
 
 pub returns-clause-words : goal.returns-clause-words
 unfolding stretch_bytes stretch
