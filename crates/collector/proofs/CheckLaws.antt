@@ -6,7 +6,8 @@ use mathlib.Core.List.{List, [], ◌∷◌, ◌++◌, append-nil}
 use native.Mathlib.Nat.{add-sub_of_le, add-suc, add-zero}
 use native.Mathlib.Numerals.{add-one}
 use native.Mathlib.Omega.{arith}
-use lib.ListN.{length, get_or}
+use lib.ListN.{length, get_or, take, drop}
+use Rattle.std.proofs.lemmas.List.{get_or-take, get_or-drop, length-take, length-drop}
 use lib.Dec.{eqb}
 use Rattle.registers.specs.Replies.{refusal_of}
 use Rattle.page_table.specs.Words.{number, leaf_pfn}
@@ -21,7 +22,21 @@ use Rattle.store.specs.Scan.{put_at, puts_from}
 use Rattle.store.proofs.Scans.{scan-add}
 use Rattle.collector.specs.Visits.{is_visited, table_leaves, tree_leaves}
 use Rattle.collector.specs.Frames.{pfns_of, all_given, pool_after_gives}
+use Rattle.std.specs.Prelude.{None, Some}
 use Rattle.collector.specs.Turns.{ChecksBy}
+
+-- the words of a table, as the code's loop takes them from the run
+abbrev table_words : (words : List ℕ) (t : ℕ) → List ℕ
+table_words words t = take (1024 * t + 1024 - 1024 * t) (drop (1024 * t) words)
+
+pub table-at : (words : List ℕ) (t k : ℕ) → 1024 * t + 1024 ≤ length words → k < length (table_words words t)
+    → (k < 1024) × (get_or (table_words words t) k 0 ≡ get_or words (1024 * t + k) 0)
+table-at words t k l h =
+    let inside : k < 1024 + 1024 * t - 1024 * t = omega (arith, simp (length-take, length-drop) at h) in
+    (omega arith, get_or-take (1024 * t + 1024 - 1024 * t) (drop (1024 * t) words) k 0 (omega arith) ∙ get_or-drop (1024 * t) words k 0)
+
+pub table-end : (words : List ℕ) (t k : ℕ) → 1024 * t + 1024 ≤ length words → length (table_words words t) ≤ k → 1024 ≤ k
+table-end words t k l h = omega (arith, simp (length-take, length-drop) at h)
 
 pub pfns-append : (a b : List Put) → pfns_of (a ++ b) ≡ pfns_of a ++ pfns_of b
 unfolding pfns_of
@@ -124,16 +139,10 @@ module _ (words : List ℕ) (first size t : ℕ) (p : Pool) where
             ∙ ap (λ (n : ℕ). pool_after_gives p (pfns_of (seen n))) (sym (add-one k));
       }
 
-      pub giving-stops : refused ≡ true → (after : Pool) → ChecksBy p (pfns_of (table_leaves words first size t)) false after
+      pub giving-stops : refused ≡ true → ChecksBy p (pfns_of (table_leaves words first size t)) None
       unfolding table_leaves
-      giving-stops r after = record {
-        clear-is = sym none;
-        pool-is = λ e. absurd (no e);
-      }
+      giving-stops r = none
         where
-          no : false ≡ true → ⊥
-          no e = let z : ◌≡◌ {A = ℕ} 0 1 = ap (λ (x : Bool). cond x 1 0) e in omega arith
-
           rest : List Put
           rest = puts_from visit value (1024 * t + suc k) (1024 - suc k)
 
@@ -145,14 +154,13 @@ module _ (words : List ℕ) (first size t : ℕ) (p : Pool) where
               ∙ all_append p (pfns_of (seen (suc k))) (pfns_of rest)
               ∙ ap (λ (x : Bool). x && all_given (pool_after_gives p (pfns_of (seen (suc k)))) (pfns_of rest)) (one_more ∙ ap not r)
 
-  pub giving-all : (left : Pool) (k : ℕ) → Giving left k → 1024 ≤ k → ChecksBy p (pfns_of (table_leaves words first size t)) true left
+  pub giving-all : (left : Pool) (k : ℕ) → Giving left k → 1024 ≤ k → ChecksBy p (pfns_of (table_leaves words first size t)) (Some left)
   unfolding table_leaves
   giving-all left k g l =
-      let e : k ≡ 1024 = omega (arith, g.some) in
-      record {
-        clear-is = sym (ap (λ (n : ℕ). all_given p (pfns_of (seen n))) (sym e) ∙ g.all-given);
-        pool-is = λ h. g.left_is ∙ ap (λ (n : ℕ). pool_after_gives p (pfns_of (seen n))) e;
-      }
+      let e : k ≡ 1024 = omega (arith, g.some) in (
+        ap (λ (n : ℕ). all_given p (pfns_of (seen n))) (sym e) ∙ g.all-given,
+        g.left_is ∙ ap (λ (n : ℕ). pool_after_gives p (pfns_of (seen n))) e,
+      )
 
 -- what can't be given can't be given with more behind it
 one_later : (words : List ℕ) (first size d : ℕ) (p : Pool) (n : ℕ) → all_given p (pfns_of (tree_leaves words first size d n)) ≡ false
@@ -209,29 +217,27 @@ module _ (words : List ℕ) (first size d : ℕ) (p : Pool) where
     unfolding stretch_size
     tree-fits h t e = subst (λ (n : ℕ). 1024 * n + 1024 ≤ length words) (sym e) (leads-fits (length words) 0 w (sym bq ∙ h))
 
-    module _ (h : b ≡ true) (t : ℕ) (e : t ≡ number w) (clear : Bool) (after : Pool)
-        (made : ChecksBy left (pfns_of (table_leaves words first size t)) clear after) where
+    module _ (h : b ≡ true) (t : ℕ) (e : t ≡ number w) where
       tree-more : pfns_of (seen-tree (suc j)) ≡ pfns_of (seen-tree j) ++ pfns_of (table_leaves words first size t)
       tree-more =
           ap pfns_of (tree-next ∙ ap (λ (x : Bool). seen-tree j ++ cond x (table_leaves words first size (number w)) []) h)
           ∙ pfns-append (seen-tree j) (table_leaves words first size (number w))
           ∙ ap (λ (n : ℕ). pfns_of (seen-tree j) ++ pfns_of (table_leaves words first size n)) (sym e)
 
-      tree-clear : all_given p (pfns_of (seen-tree (suc j))) ≡ clear
+      tree-clear : all_given p (pfns_of (seen-tree (suc j))) ≡ all_given left (pfns_of (table_leaves words first size t))
       tree-clear =
           ap (all_given p) tree-more
           ∙ all_append p (pfns_of (seen-tree j)) (pfns_of (table_leaves words first size t))
           ∙ ap (λ (x : Bool). x && all_given (pool_after_gives p (pfns_of (seen-tree j))) (pfns_of (table_leaves words first size t)))
           g.all-given
           ∙ ap (λ (q : Pool). all_given q (pfns_of (table_leaves words first size t))) (sym g.left_is)
-          ∙ sym made.clear-is
 
-      pub tree-on : clear ≡ true → GivingTree after (j + 1)
-      tree-on c = record {
+      pub tree-on : (after : Pool) → ChecksBy left (pfns_of (table_leaves words first size t)) (Some after) → GivingTree after (j + 1)
+      tree-on after made = record {
         some = omega arith;
-        all-given = ap (λ (n : ℕ). all_given p (pfns_of (seen-tree n))) (add-one j) ∙ tree-clear ∙ c;
+        all-given = ap (λ (n : ℕ). all_given p (pfns_of (seen-tree n))) (add-one j) ∙ tree-clear ∙ made.0;
         left_is =
-            made.pool-is c
+            made.1
             ∙ ap (λ (q : Pool). pool_after_gives q (pfns_of (table_leaves words first size t))) g.left_is
             ∙ sym (gives-append p (pfns_of (seen-tree j)) (pfns_of (table_leaves words first size t)))
             ∙ ap (pool_after_gives p) (sym tree-more)
@@ -239,7 +245,7 @@ module _ (words : List ℕ) (first size d : ℕ) (p : Pool) where
       }
 
       -- where a give is refused, the whole can't be given
-      pub tree-stops : clear ≡ false → false ≡ all_given p (pfns_of (tree_leaves words first size d 512))
+      pub tree-stops : ChecksBy left (pfns_of (table_leaves words first size t)) None → false ≡ all_given p (pfns_of (tree_leaves words first size d 512))
       tree-stops c = sym (later 512 (omega arith))
         where
           later : (n : ℕ) → suc j ≤ n → all_given p (pfns_of (seen-tree n)) ≡ false

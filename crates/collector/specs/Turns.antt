@@ -1,5 +1,5 @@
 -- How the code makes a pass, one visited leaf after another: a rewrite each, and where the leaf was not valid its frame goes back.
-use Rattle.std.specs.Prelude.{ℕ, ◌+◌, ◌≡◌, Bool, true, not, cond, List, [], ◌∷◌, set}
+use Rattle.std.specs.Prelude.{ℕ, ◌+◌, ◌≡◌, true, false, not, cond, Option, None, Some, List, [], ◌∷◌, set}
 use Rattle.runs.specs.Bits.{bit}
 use Rattle.page_table.specs.Words.{leaf_valid, leaf_pfn}
 use Rattle.slots.specs.Buffer.{Buffer}
@@ -40,7 +40,7 @@ unfoldable pub turns : State → List Put → State
 turns s [] = s
 turns s (q ∷ qs) = turns (turn s q) qs
 
--- how the code checks the frames: it gives them from a copy of the pool, until a give is refused
-pub record ChecksBy (p : Pool) (pfns : List ℕ) (clear : Bool) (after : Pool) : Type 0 where
-  pub clear-is : clear ≡ all_given p pfns
-  pub pool-is : clear ≡ true → after ≡ pool_after_gives p pfns
+-- how the code checks the frames: it gives them from a copy of the pool, until a give is refused; the pool after that, if none was
+abbrev pub ChecksBy : Pool → List ℕ → Option Pool → Type 0
+ChecksBy p pfns None = all_given p pfns ≡ false
+ChecksBy p pfns (Some after) = (all_given p pfns ≡ true) × (after ≡ pool_after_gives p pfns)

@@ -7,55 +7,35 @@ ghost use Rattle.collector.specs.Visits.{table_leaves, tree_leaves};
 ghost use Rattle.collector.specs.Frames.{all_given, pfns_of};
 ghost use Rattle.collector.specs.Turns.{ChecksBy};
 
-use crate::leaves::{is_visited, pfn_of};
+use crate::leaves::{Frames, is_visited, pfn_of};
 use heap::Pool;
 use registers::Outcome;
 
-// Whether frames could be given one after another, and the pool after that.
-#[derive(Clone, Copy)]
-pub(crate) struct Checked {
-    clear: bool,
-    pool: Pool,
-}
-
 // Whether an outcome is a refusal.
+#[tactic(auto, unfolding(registers::specs::Replies::refusal_of))]
 fn is_refused(outcome: Outcome) -> bool
     ensures { result ≡ not (eqb (refusal_of outcome) 0) }
 {
-    match outcome {
-        Outcome::At(_) => false,
-        Outcome::Fault(_) => false,
-        Outcome::Done(_) => false,
-        Outcome::Refused(number) => number != 0,
-    }
+    matches!(outcome, Outcome::Refused(number) if number != 0)
 }
 
-// Gives the frames of a table's visited leaves, until a give is refused.
-fn give_table(words: &[u32], first: u32, size: u32, table: usize, pool: Pool) -> Checked
+// Gives the frames of a table's visited leaves: the pool after that, or none where a give is refused.
+fn give_table(words: &[u32], frames: Frames, table: usize, pool: Pool) -> Option<Pool>
     requires { (length words.now ≤ LONGEST) × (1024 * table + 1024 ≤ length words.now) }
-    ensures { ChecksBy pool (pfns_of (table_leaves words.now first size table)) result.clear result.pool }
+    ensures { ChecksBy pool (pfns_of (table_leaves words.now frames.first frames.size table)) result }
 {
+    let from = page_table::TABLE * table;
     let mut left = pool;
-    let mut k: usize = 0;
-    while k < page_table::TABLE {
-        let word = words[page_table::TABLE * table + k];
-        k += 1;
-        if is_visited(first, size, word) {
-            let reply = heap::give(left, pfn_of(word));
-            let outcome = reply.outcome;
-            left = reply.pool;
-            if is_refused(outcome) {
-                return Checked {
-                    clear: false,
-                    pool: left,
-                };
+    for word in &words[from..from + page_table::TABLE] {
+        if is_visited(frames, *word) {
+            let reply = heap::give(left, pfn_of(*word));
+            if is_refused(reply.outcome) {
+                return None;
             }
+            left = reply.pool;
         }
     }
-    Checked {
-        clear: true,
-        pool: left,
-    }
+    Some(left)
 }
 
 // Whether the frames of a tree's visited leaves could be given one after another.
@@ -63,18 +43,16 @@ pub(crate) fn may_give_tree(words: &[u32], directory: usize, pool: Pool) -> bool
     requires { (length words.now ≤ LONGEST) × (512 * directory + 512 ≤ length words.now) }
     ensures { result ≡ all_given pool (pfns_of (tree_leaves words.now pool.first pool.size directory 512)) }
 {
-    let first = pool.first;
-    let size = pool.size;
+    let frames = Frames {
+        first: pool.first,
+        size: pool.size,
+    };
     let mut left = pool;
-    let mut j: usize = 0;
-    while j < page_table::DIRECTORY {
-        let word = words[page_table::DIRECTORY * directory + j];
-        j += 1;
-        if page_table::leads_on(words.len(), 0, word) {
-            let checked = give_table(words, first, size, page_table::number_of(word), left);
-            left = checked.pool;
-            if !checked.clear {
-                return false;
+    for word in reach::directory(words, directory) {
+        if page_table::leads_on(words.len(), 0, *word) {
+            match give_table(words, frames, page_table::number_of(*word), left) {
+                Some(after) => left = after,
+                None => return false,
             }
         }
     }

@@ -10,12 +10,20 @@ pub(crate) fn pfn_of(word: u32) -> u32
     word % entry::FRAMES
 }
 
-// Whether a word is a present leaf whose frame is in the pool.
-pub(crate) fn is_visited(first: u32, size: u32, word: u32) -> bool
-    ensures { result ≡ is_visited first size word }
+// The frames of a pool: the first pfn, and how many there are.
+#[derive(Clone, Copy)]
+pub(crate) struct Frames {
+    pub(crate) first: u32,
+    pub(crate) size: u32,
+}
+
+// Whether a word is a present leaf whose frame is among them.
+pub(crate) fn is_visited(frames: Frames, word: u32) -> bool
+    ensures { result ≡ is_visited frames.first frames.size word }
 {
     let pfn = pfn_of(word);
-    page_table::is_present(word) & ((first <= pfn) & ((pfn as u64) < first as u64 + size as u64))
+    let end = frames.first as u64 + frames.size as u64;
+    page_table::is_present(word) & ((frames.first <= pfn) & ((pfn as u64) < end))
 }
 
 // Whether a leaf is valid.

@@ -9,11 +9,12 @@ mod leaves;
 ghost use Rattle.std.specs.Prelude.{true, ◌≡◌, ◌<◌};
 ghost use Rattle.page_table.specs.Stretches.{tables_fit};
 ghost use Rattle.slots.specs.Buffer.{Buffer};
+ghost use Rattle.registers.specs.Numbers.{number_of, refusal_number};
 ghost use Rattle.heap.specs.Pools.{pool_fits};
 ghost use Rattle.collector.specs.Collect.{CollectGives, collect_refusal, may_collect, refused_collect};
 
 use heap::Pool;
-use registers::{Registers, Reply, refusals};
+use registers::{Refusal, Registers, Reply};
 
 // A pass on its way: the frames given back and the slots emptied so far, and the pool.
 #[derive(Clone, Copy)]
@@ -46,37 +47,40 @@ fn may_collect(words: &[u32], pool: Pool, id: u32) -> bool
     frames::may_give_tree(words, page_table::number_of(root), pool)
 }
 
-// The number that a pass is refused with; 0 where it is accepted.
-fn collect_refusal(r: Registers, buffer: &[u64], words: &[u32], pool: Pool, id: u32) -> u32
-    ensures { result ≡ collect_refusal
+// Whether a pass is accepted, or what it is refused for.
+fn collect_refusal(
+    r: Registers,
+    buffer: &[u64],
+    words: &[u32],
+    pool: Pool,
+    id: u32,
+) -> Result<(), Refusal>
+    ensures { refusal_number result ≡ collect_refusal
         (record { registers = r; buffer = Buffer.Wide buffer.now; words = words.now }) pool id }
 {
     if !heap::frames_fit(pool.first, pool.size) {
-        return refusals::POOL;
+        return Err(Refusal::Pool);
     }
-    let early = registers::machine_refusal(
+    registers::machine_refusal(
         registers::registers_fit(r),
         slots::buffer_fits(buffer),
         page_table::tables_fit(words),
-    );
-    if early != 0 {
-        return early;
-    }
+    )?;
     let known = id <= 62;
     if !known {
-        return refusals::SERVICE;
+        return Err(Refusal::Service);
     }
     if !may_collect(words, pool, id) {
-        return refusals::TREE;
+        return Err(Refusal::Tree);
     }
-    0
+    Ok(())
 }
 
 // A refused pass gives no frame back.
-fn refused_collect(r: Registers, number: u32, pool: Pool) -> Collected
-    ensures { result ≡ refused_collect r number pool }
+fn refused_collect(r: Registers, refusal: Refusal, pool: Pool) -> Collected
+    ensures { result ≡ refused_collect r (number_of refusal) pool }
 {
-    let reply = registers::refused(r, number);
+    let reply = registers::refused(r, u32::from(refusal));
     Collected {
         reply,
         given: 0,
@@ -96,16 +100,14 @@ pub fn collect(
         (record { registers = r; buffer = Buffer.Wide buffer.old; words = words.old })
         pool id result (Buffer.Wide buffer.new) words.new }
 {
-    let refusal = collect_refusal(r, buffer, words, pool, id);
-    if refusal != 0 {
+    if let Err(refusal) = collect_refusal(r, buffer, words, pool, id) {
         return refused_collect(r, refusal, pool);
     }
     let aged = aging::age(buffer, words, pool, id);
-    let left = aged.pool;
     let reply = registers::done(r, aged.emptied);
     Collected {
         reply,
         given: aged.given,
-        pool: left,
+        pool: aged.pool,
     }
 }

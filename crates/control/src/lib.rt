@@ -3,6 +3,7 @@
 
 ghost use Rattle.std.specs.Prelude.{true, ◌≡◌};
 ghost use Rattle.registers.specs.Fields.{fits_at, registers_fit};
+ghost use Rattle.registers.specs.Numbers.{refusal_number};
 ghost use Rattle.slots.specs.Buffer.{Buffer, buffer_fits};
 ghost use Rattle.control.specs.Starting.{StartGives, start_refusal};
 ghost use Rattle.control.specs.Numbers.{is_register, number_refusal};
@@ -11,7 +12,7 @@ ghost use Rattle.control.specs.Writing.{WriteGives, write_refusal, written_buffe
 ghost use Rattle.control.specs.Reading.{ReadGives, read_refusal, read_value};
 ghost use Rattle.control.specs.Setting.{GuardedSettingGives, is_guarded, setting_refusal, switch_fits};
 
-use registers::{Registers, Reply, refusals};
+use registers::{Refusal, Registers, Reply};
 
 // Register numbers.
 const CONTEXT: u32 = 5;
@@ -29,7 +30,7 @@ pub fn start(buffer: &mut [u64]) -> Reply
 {
     let r = registers::zero_registers();
     if !slots::buffer_fits(buffer) {
-        return registers::refused(r, refusals::BUFFER);
+        return registers::refused(r, u32::from(Refusal::Buffer));
     }
     slots::empty_slots(buffer);
     registers::done(r, 0)
@@ -43,33 +44,30 @@ fn is_register(number: u32) -> bool
 }
 
 // What a read and a write are refused for in common: registers, buffer, number.
-fn number_refusal(r: Registers, buffer: &[u64], number: u32) -> u32
-    ensures { result ≡ number_refusal r (Buffer.Wide buffer.now) number 0 }
+fn number_refusal(r: Registers, buffer: &[u64], number: u32) -> Result<(), Refusal>
+    ensures { refusal_number result ≡ number_refusal r (Buffer.Wide buffer.now) number 0 }
 {
     if !registers::registers_fit(r) {
-        return refusals::REGISTERS;
+        return Err(Refusal::Registers);
     }
     if !slots::buffer_fits(buffer) {
-        return refusals::BUFFER;
+        return Err(Refusal::Buffer);
     }
     if !is_register(number) {
-        return refusals::SETTING;
+        return Err(Refusal::Setting);
     }
-    0
+    Ok(())
 }
 
 // A write is also refused for a value too large.
-fn write_refusal(r: Registers, buffer: &[u64], number: u32, value: u32) -> u32
-    ensures { result ≡ write_refusal r (Buffer.Wide buffer.now) number value }
+fn write_refusal(r: Registers, buffer: &[u64], number: u32, value: u32) -> Result<(), Refusal>
+    ensures { refusal_number result ≡ write_refusal r (Buffer.Wide buffer.now) number value }
 {
-    let refusal = number_refusal(r, buffer, number);
-    if refusal != 0 {
-        return refusal;
-    }
+    number_refusal(r, buffer, number)?;
     if !registers::fits_at(number, value) {
-        return refusals::SETTING;
+        return Err(Refusal::Setting);
     }
-    0
+    Ok(())
 }
 
 // A write to TLB_LO stores the entry at SELECT; no other write touches the buffer.
@@ -88,9 +86,8 @@ fn write_buffer(r: Registers, buffer: &mut [u64], number: u32, value: u32)
 pub fn write_register(r: Registers, buffer: &mut [u64], number: u32, value: u32) -> Reply
     ensures { WriteGives r (Buffer.Wide buffer.old) (Buffer.Wide buffer.new) number value result }
 {
-    let refusal = write_refusal(r, buffer, number, value);
-    if refusal != 0 {
-        return registers::refused(r, refusal);
+    if let Err(refusal) = write_refusal(r, buffer, number, value) {
+        return registers::refused(r, u32::from(refusal));
     }
     write_buffer(r, buffer, number, value);
     let after = registers::put(r, number, value);
@@ -130,9 +127,8 @@ fn read_value(r: Registers, buffer: &[u64], number: u32) -> u32
 pub fn read_register(r: Registers, buffer: &[u64], number: u32) -> Reply
     ensures { ReadGives r (Buffer.Wide buffer.now) number result }
 {
-    let refusal = number_refusal(r, buffer, number);
-    if refusal != 0 {
-        return registers::refused(r, refusal);
+    if let Err(refusal) = number_refusal(r, buffer, number) {
+        return registers::refused(r, u32::from(refusal));
     }
     let value = read_value(r, buffer, number);
     registers::done(r, value)
@@ -152,31 +148,30 @@ fn switch_fits(number: u32, value: u32) -> bool
     (number != CONTEXT) | (value <= 62)
 }
 
-fn setting_refusal(r: Registers, number: u32, value: u32) -> u32
-    ensures { result ≡ setting_refusal r number value }
+fn setting_refusal(r: Registers, number: u32, value: u32) -> Result<(), Refusal>
+    ensures { refusal_number result ≡ setting_refusal r number value }
 {
     if !registers::registers_fit(r) {
-        return refusals::REGISTERS;
+        return Err(Refusal::Registers);
     }
     if !switch_fits(number, value) {
-        return refusals::SERVICE;
+        return Err(Refusal::Service);
     }
     if !is_guarded(number) {
-        return refusals::SETTING;
+        return Err(Refusal::Setting);
     }
     if !registers::fits_at(number, value) {
-        return refusals::SETTING;
+        return Err(Refusal::Setting);
     }
-    0
+    Ok(())
 }
 
 // Sets a guarded register.
 pub fn guarded_setting(r: Registers, number: u32, value: u32) -> Reply
     ensures { GuardedSettingGives r number value result }
 {
-    let refusal = setting_refusal(r, number, value);
-    if refusal != 0 {
-        return registers::refused(r, refusal);
+    if let Err(refusal) = setting_refusal(r, number, value) {
+        return registers::refused(r, u32::from(refusal));
     }
     let changed = registers::put(r, number, value);
     registers::done(changed, 0)

@@ -4,8 +4,7 @@ use Rattle.registers.specs.Fields.{put, KSEG, CTRL, ENABLE, KBASE_LO, KBASE_HI, 
 use Rattle.registers.specs.declared.Registers.{Registers}
 use Rattle.slots.specs.Buffer.{Buffer}
 use Rattle.slots.specs.Buffer.Buffer.{Wide}
-use Rattle.mmu.specs.RawAccess.{raw_reply}
-use Rattle.mmu.specs.declared.RawReply.TheVariants.{Refused}
+use Rattle.mmu.specs.RawAccess.{raw_reply, raw_refused}
 use Rattle.examples.specs.Claims.{Example, ◌gives◌}
 use Rattle.examples.specs.Scene.{reg, registers_with, started, user, supervisor, replied, one_entry, two_entries}
 use Rattle.examples.specs.Scene.{page_vpn, page_byte, frame_byte}
@@ -78,8 +77,8 @@ too_wide = registers_with (reg CONTEXT 64 ∷ [])
 unfoldable pub refusals : List Example
 refusals =
     -- in the order of the table: registers, buffer, draw
-    (raw_reply too_wide (Wide (replicate 63 0)) (user false 0 4) gives Refused 1 too_wide)
-    ∷ (raw_reply (row 1 0) (Wide (replicate 63 0)) (user false 0 4) gives Refused 2 (row 1 0))
-    ∷ (raw_reply (row 1 0) (Wide (replicate 65 0)) (user false 0 4) gives Refused 2 (row 1 0))
-    ∷ (raw_reply (row 1 0) started (user false 0 4) gives Refused 4 (row 1 0))
+    (raw_reply too_wide (Wide (replicate 63 0)) (user false 0 4) gives raw_refused 1 too_wide)
+    ∷ (raw_reply (row 1 0) (Wide (replicate 63 0)) (user false 0 4) gives raw_refused 2 (row 1 0))
+    ∷ (raw_reply (row 1 0) (Wide (replicate 65 0)) (user false 0 4) gives raw_refused 2 (row 1 0))
+    ∷ (raw_reply (row 1 0) started (user false 0 4) gives raw_refused 4 (row 1 0))
     ∷ []

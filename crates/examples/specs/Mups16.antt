@@ -1,5 +1,5 @@
 -- The MUPS/16 unit, in one list: boot mode, each fault, table indexes, entry addresses, bits above an entry's 19, and a history.
-use Rattle.std.specs.Prelude.{ℕ, ◌+◌, ◌*◌, Bool, true, false, List, [], ◌∷◌, ◌++◌, set, replicate}
+use Rattle.std.specs.Prelude.{ℕ, ◌+◌, ◌*◌, Bool, true, false, List, [], ◌∷◌, ◌++◌, set, replicate, Ok, Err}
 use Rattle.mups16.specs.Answers.{refusal_of}
 use Rattle.mups16.specs.States.{index_of, with_index}
 use Rattle.mups16.specs.Map.{map_reply}
@@ -10,7 +10,7 @@ use Rattle.mups16.specs.Requests.{history_of}
 use Rattle.mups16.specs.Requests.Request.{ToMap, ToSetTableIndex, ToSetBootMode}
 use Rattle.mups16.specs.LastFault.{last_fault}
 use Rattle.mups16.specs.declared.State.{State}
-use Rattle.mups16.specs.declared.Answer.TheVariants.{At, Word, Done, Refused}
+use Rattle.mups16.specs.declared.refusal.Refusal.TheVariants.{WrongLength}
 use Rattle.mups16.specs.declared.MapReply.{MapReply}
 use Rattle.examples.specs.Claims.{Example, ◌gives◌}
 
@@ -20,7 +20,7 @@ kept index boot-mode fault = record { table_index = index; boot_mode = boot-mode
 -- a map's answer and the state after it
 unfoldable pub answered : (address : ℕ) (no-mapping write-violation protection-violation : Bool) → State → MapReply
 answered address no-mapping write-violation protection-violation s = record {
-  answer = At (record {
+  answer = Ok (record {
     address = address;
     no_mapping = no-mapping;
     write_violation = write-violation;
@@ -30,7 +30,7 @@ answered address no-mapping write-violation protection-violation s = record {
 }
 
 unfoldable pub refused : State → MapReply
-refused s = record { answer = Refused 2; state = s }
+refused s = record { answer = Err WrongLength; state = s }
 
 -- every entry 0, but one; every bit of every entry set
 unfoldable pub one : (place e : ℕ) → List ℕ
@@ -79,22 +79,22 @@ maps =
 unfoldable pub reads : List Example
 reads =
     -- an entry address keeps its low 13 bits
-    (read_low (one 8191 0x5abcd) 8191 gives Word 0xabcd)
-    ∷ (read_low (one 8191 0x5abcd) 8192 gives Word 0)
-    ∷ (read_low (one 0 0x5abcd) 8192 gives Word 0xabcd)
-    ∷ (read_low (one 8191 0x5abcd) 65535 gives Word 0xabcd)
-    ∷ (read_low (one 8191 0x5abcd) 0xFFFFFFFF gives Word 0xabcd)
+    (read_low (one 8191 0x5abcd) 8191 gives Ok 0xabcd)
+    ∷ (read_low (one 8191 0x5abcd) 8192 gives Ok 0)
+    ∷ (read_low (one 0 0x5abcd) 8192 gives Ok 0xabcd)
+    ∷ (read_low (one 8191 0x5abcd) 65535 gives Ok 0xabcd)
+    ∷ (read_low (one 8191 0x5abcd) 0xFFFFFFFF gives Ok 0xabcd)
     -- the table index above the three bits; both by the bits that count
-    ∷ (read_high (one 8191 0x5abcd) (kept 31 false 0) 65535 gives Word 0x1f05)
-    ∷ (read_high (one 8191 0x5abcd) (kept 32 true 0) 8191 gives Word 0x0005)
-    ∷ (read_high full (kept 0xFFFFFFFF false 0) 0 gives Word 0x1f07)
-    ∷ (read_low full 0 gives Word 0xffff)
-    ∷ (read_low (replicate 8191 0) 0 gives Refused 2)
-    ∷ (read_high (replicate 8193 0) (kept 0 false 0) 0 gives Refused 2)
+    ∷ (read_high (one 8191 0x5abcd) (kept 31 false 0) 65535 gives Ok 0x1f05)
+    ∷ (read_high (one 8191 0x5abcd) (kept 32 true 0) 8191 gives Ok 0x0005)
+    ∷ (read_high full (kept 0xFFFFFFFF false 0) 0 gives Ok 0x1f07)
+    ∷ (read_low full 0 gives Ok 0xffff)
+    ∷ (read_low (replicate 8191 0) 0 gives Err WrongLength)
+    ∷ (read_high (replicate 8193 0) (kept 0 false 0) 0 gives Err WrongLength)
     -- the number that each answer refuses with
     ∷ (refusal_of (read_low full 0) gives 0)
     ∷ (refusal_of (read_low (replicate 8191 0) 0) gives 2)
-    ∷ (refusal_of Done gives 0)
+    ∷ (refusal_of (set_answer full) gives 0)
     ∷ (refusal_of (map_reply full (kept 0 false 0) 0x053a true true).answer gives 0)
     ∷ []
 
@@ -106,11 +106,11 @@ sets =
     ∷ (with_index 0xFFFFFFFF (kept 7 false 9) gives kept 31 false 9)
     ∷ (index_of (kept 32 false 0) gives 0)
     -- an entry: bits 19 and up are written as 0, and those of other entries stay
-    ∷ (set_answer full gives Done)
+    ∷ (set_answer full gives Ok tt)
     ∷ (entries_after_set full 8191 0xFFFA0001 gives set full 8191 0x20001)
     ∷ (entries_after_set full 8192 0xFFFFFFFF gives set full 0 0x7ffff)
     ∷ (entries_after_set full 65535 0 gives set full 8191 0)
-    ∷ (set_answer (replicate 8191 1) gives Refused 2)
+    ∷ (set_answer (replicate 8191 1) gives Err WrongLength)
     ∷ (entries_after_set (replicate 8191 1) 0 0x7ffff gives replicate 8191 1)
     ∷ []
 

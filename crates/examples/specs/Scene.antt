@@ -1,5 +1,5 @@
 -- The registers, buffers, accesses and answers that the examples are written with.
-use Rattle.std.specs.Prelude.{ℕ, ◌+◌, ◌*◌, Bool, true, false, List, [], ◌∷◌, replicate, Option}
+use Rattle.std.specs.Prelude.{ℕ, ◌+◌, ◌*◌, Bool, true, false, List, [], ◌∷◌, replicate, Option, Ok}
 use Rattle.entry.specs.Entry.{pack}
 use Rattle.registers.specs.Fields.{put, zero_registers, CTRL, ENABLE, CONTEXT, SELECT, TLB_HI, CAUSE}
 use Rattle.registers.specs.declared.Access.{Access}
@@ -7,8 +7,7 @@ use Rattle.registers.specs.declared.Registers.{Registers}
 use Rattle.slots.specs.Buffer.{Buffer, with_slot}
 use Rattle.slots.specs.Buffer.Buffer.{Wide}
 use Rattle.slots.specs.Start.{start_buffer}
-use Rattle.mmu.specs.declared.RawReply.{RawReply}
-use Rattle.mmu.specs.declared.RawReply.TheVariants.{Answered}
+use Rattle.mmu.specs.RawAccess.{RawReply}
 
 -- a field's place and its value
 pub data Field : Type 0 where
@@ -47,7 +46,7 @@ supervisor write address draw = record { address = address; user = false; write 
 -- a reply that is no refusal
 unfoldable pub replied : (physical : Option ℕ) (interrupt exception : Bool) (value : ℕ) (after : Registers) → RawReply
 replied physical interrupt exception value after =
-    Answered (record { physical = physical; interrupt = interrupt; exception = exception; value = value; registers = after })
+    Ok (record { physical = physical; interrupt = interrupt; exception = exception; value = value; registers = after })
 
 -- the entry of vpn 0x12342 under page_id 5, whose location is 2: valid, kernel, we as given, pfn 0x77
 unfoldable pub entry_with : (valid kernel we : Bool) → ℕ

@@ -98,7 +98,7 @@ module _ (bits : List ℕ) (size : ℕ) where
     none-turn none z i l h = below none 64 (omega arith) (λ j jl. ap (flag j) z ∙ flag-none j) i (omega arith) h
 
     pub free-found : NoneFree k → free ≢ 0
-        → (64 * k + count_trailing_zeros 64 free ≡ lowest (free_at bits) size size) × (count_trailing_zeros 64 free < 64)
+        → (64 * k + count_trailing_zeros 64 free ≡ lowest (free_at bits) size size) × (64 * k + count_trailing_zeros 64 free < size)
     free-found none ne =
         let t = count_trailing_zeros 64 free in
         let tl = trailing_lt 64 free free-lt ne in
@@ -106,7 +106,7 @@ module _ (bits : List ℕ) (size : ℕ) where
         let inside = ltb-true (64 * k + t) size there.0 in (
           sym (lowest-is (free_at bits) size size (64 * k + t) inside there.1
               (λ i l. below none t (omega arith) (trailing 64 free).clear-below i l (omega arith))),
-          tl,
+          inside,
         )
 
   -- the frames of the first words that are held, within the size

@@ -1,8 +1,8 @@
 // The words that hold a pool's bits: the lowest free frame, how many are held, and one bit flipped.
-ghost use Rattle.std.specs.Prelude.{not, ◌≡◌, ◌≤◌, ◌<◌, ◌%◌, ◌^◌, get_or, set};
+ghost use Rattle.std.specs.Prelude.{not, ◌≡◌, ◌+◌, ◌*◌, ◌≤◌, ◌<◌, ◌%◌, ◌^◌, get_or, set};
 ghost use Rattle.std.specs.Int.Count.{count_trailing_zeros};
-ghost use Rattle.runs.specs.Counts.{count, lowest};
-ghost use Rattle.heap.specs.Bits.{free_at, held_at, with_held};
+ghost use Rattle.runs.specs.Counts.{count};
+ghost use Rattle.heap.specs.Bits.{IsLowestFree, held_at, with_held};
 ghost use Rattle.heap.specs.Pools.{LARGEST};
 
 // The lowest bits of a number, as many as the width says.
@@ -13,6 +13,14 @@ fn low_bits(n: u64, width: u32) -> u64
         return n % (1u64 << width);
     }
     n
+}
+
+// How many words hold the bits of so many frames.
+fn words_of(size: u32) -> u32
+    requires { size ≤ LARGEST }
+    ensures { (size ≤ 64 * result) × (64 * result < size + 64) }
+{
+    size.div_ceil(64)
 }
 
 // One word of the bits.
@@ -30,21 +38,19 @@ fn lowest_set(n: u64) -> u32
     u64::trailing_zeros(n)
 }
 
-// The place of the lowest free frame; the size where every frame is held.
-pub(crate) fn lowest_free(bits: &[u64; 64], size: u32) -> u32
+// The place of the lowest free frame; none where every frame is held.
+pub(crate) fn lowest_free(bits: &[u64; 64], size: u32) -> Option<u32>
     requires { size ≤ LARGEST }
-    ensures { result ≡ lowest (free_at bits.now) size size }
+    ensures { IsLowestFree bits.now size result }
 {
-    let mut k: u32 = 0;
-    while 64 * k < size {
+    for k in 0..words_of(size) {
         // The free word: the complement within the size.
         let free = low_bits(!word_at(bits, k), size - 64 * k);
         if free != 0 {
-            return 64 * k + lowest_set(free);
+            return Some(64 * k + lowest_set(free));
         }
-        k += 1;
     }
-    size
+    None
 }
 
 // How many frames are held.
@@ -53,11 +59,9 @@ pub(crate) fn held_frames(bits: &[u64; 64], size: u32) -> u32
     ensures { result ≡ count (held_at bits.now) size }
 {
     let mut number: u32 = 0;
-    let mut k: u32 = 0;
-    while 64 * k < size {
+    for k in 0..words_of(size) {
         let held = low_bits(word_at(bits, k), size - 64 * k);
         number += u64::count_ones(held);
-        k += 1;
     }
     number
 }

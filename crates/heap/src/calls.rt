@@ -1,5 +1,6 @@
 // The calls on a pool alone: new pool, take, give, held.
 ghost use Rattle.std.specs.Prelude.{◌≡◌, ◌≤◌};
+ghost use Rattle.registers.specs.Numbers.{number_of};
 ghost use Rattle.heap.specs.Pools as pools;
 ghost use Rattle.heap.specs.Pools.{LARGEST, frames_fit, refused_pool};
 ghost use Rattle.heap.specs.NewPool.{NewPoolGives, clear_pool};
@@ -9,7 +10,7 @@ ghost use Rattle.heap.specs.Held.{HeldGives};
 
 use crate::bits::{flip, held_at, held_frames, lowest_free};
 use crate::{Pool, PoolReply};
-use registers::{Outcome, refusals};
+use registers::{Outcome, Refusal};
 
 // How many frames the largest pool has.
 const LARGEST: u32 = 4096;
@@ -40,11 +41,11 @@ fn holds(first: u32, size: u32, bits: &[u64; 64], pfn: u32) -> bool
 }
 
 // A refusal hands the pool back unchanged.
-fn refused_pool(number: u32, pool: Pool) -> PoolReply
-    ensures { result ≡ refused_pool number pool }
+fn refused_pool(refusal: Refusal, pool: Pool) -> PoolReply
+    ensures { result ≡ refused_pool (number_of refusal) pool }
 {
     PoolReply {
-        outcome: Outcome::Refused(number),
+        outcome: Outcome::Refused(u32::from(refusal)),
         pool,
     }
 }
@@ -65,7 +66,7 @@ pub fn new_pool(first: u32, size: u32) -> PoolReply
     ensures { NewPoolGives first size result }
 {
     if !frames_fit(first, size) {
-        return refused_pool(refusals::POOL, clear_pool(0, 0));
+        return refused_pool(Refusal::Pool, clear_pool(0, 0));
     }
     let pool = clear_pool(first, size);
     PoolReply {
@@ -79,12 +80,11 @@ pub fn take(mut pool: Pool) -> PoolReply
     ensures { TakeGives pool result }
 {
     if !frames_fit(pool.first, pool.size) {
-        return refused_pool(refusals::POOL, pool);
+        return refused_pool(Refusal::Pool, pool);
     }
-    let place = lowest_free(&pool.bits, pool.size);
-    if place == pool.size {
-        return refused_pool(refusals::FULL, pool);
-    }
+    let Some(place) = lowest_free(&pool.bits, pool.size) else {
+        return refused_pool(Refusal::Full, pool);
+    };
     flip(&mut pool.bits, place);
     let pfn = pool.first + place;
     PoolReply {
@@ -98,10 +98,10 @@ pub fn give(mut pool: Pool, pfn: u32) -> PoolReply
     ensures { GiveGives pool pfn result }
 {
     if !frames_fit(pool.first, pool.size) {
-        return refused_pool(refusals::POOL, pool);
+        return refused_pool(Refusal::Pool, pool);
     }
     if !holds(pool.first, pool.size, &pool.bits, pfn) {
-        return refused_pool(refusals::NOT_HELD, pool);
+        return refused_pool(Refusal::NotHeld, pool);
     }
     let place = pfn - pool.first;
     flip(&mut pool.bits, place);
@@ -116,7 +116,7 @@ pub fn held(pool: Pool) -> Outcome
     ensures { HeldGives pool result }
 {
     if !frames_fit(pool.first, pool.size) {
-        return Outcome::Refused(refusals::POOL);
+        return Outcome::Refused(u32::from(Refusal::Pool));
     }
     Outcome::Done(held_frames(&pool.bits, pool.size))
 }

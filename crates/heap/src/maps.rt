@@ -2,12 +2,13 @@
 ghost use Rattle.std.specs.Prelude.{◌≡◌, ◌<◌};
 ghost use Rattle.entry.specs.Entry.{FRAMES};
 ghost use Rattle.slots.specs.Buffer.{Buffer};
+ghost use Rattle.registers.specs.Numbers.{number_of};
 ghost use Rattle.heap.specs.Map.{MapGives, MayMap, mapped_word, refused_map};
 
 use crate::bits::{flip, lowest_free};
 use crate::calls::frames_fit;
 use crate::{Mapped, Pool};
-use registers::{Registers, refusals};
+use registers::{Refusal, Registers};
 
 // How many values the bits of a leaf have that a map keeps: valid, kernel, we and nine software bits, above the pfn's 19.
 const KEPT: u32 = 1 << 12;
@@ -21,10 +22,10 @@ fn mapped_word(leaf: u32, pfn: u32) -> u32
 }
 
 // A refused map takes no frame.
-fn refused_map(r: Registers, number: u32, pool: Pool) -> Mapped
-    ensures { result ≡ refused_map r number pool }
+fn refused_map(r: Registers, refusal: Refusal, pool: Pool) -> Mapped
+    ensures { result ≡ refused_map r (number_of refusal) pool }
 {
-    let reply = registers::refused(r, number);
+    let reply = registers::refused(r, u32::from(refusal));
     Mapped {
         reply,
         pfn: 0,
@@ -68,15 +69,13 @@ pub fn map(
         pool index leaf result (Buffer.Wide buffer.new) words.new }
 {
     if !frames_fit(pool.first, pool.size) {
-        return refused_map(r, refusals::POOL, pool);
+        return refused_map(r, Refusal::Pool, pool);
     }
-    let refusal = store::store_refusal(r, buffer, words, index);
-    if refusal != 0 {
+    if let Err(refusal) = store::store_refusal(r, buffer, words, index) {
         return refused_map(r, refusal, pool);
     }
-    let place = lowest_free(&pool.bits, pool.size);
-    if place == pool.size {
-        return refused_map(r, refusals::FULL, pool);
-    }
+    let Some(place) = lowest_free(&pool.bits, pool.size) else {
+        return refused_map(r, Refusal::Full, pool);
+    };
     map_frame(r, buffer, words, pool, place, index, leaf)
 }

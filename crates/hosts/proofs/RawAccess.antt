@@ -17,7 +17,8 @@ use Rattle.access.specs.Translation.{Accepted, translate}
 use Rattle.access.proofs.Keeping.{translate-fits}
 use Rattle.mmu.specs.RawAccess.{raw_reply}
 use Rattle.mmu.specs.RawAccess.{raw_refusal as unit_refusal}
-use Rattle.mmu.specs.declared.RawReply.TheVariants.{Answered, Refused}
+use Rattle.std.specs.Prelude.{Ok}
+use Rattle.mmu.specs.RawAccess.{raw_refused}
 use Rattle.mmu_c.specs.Runs.{registers_of, register_bytes, buffer_of, registers_long, registers_taken, buffer_taken}
 use Rattle.mmu_c.specs.Answers.{refusal_answer, translation_answer}
 use Rattle.mmu_c.specs.RawAccess.{raw_refusal, translation, raw_number, raw_registers}
@@ -55,7 +56,7 @@ module _ (registers buffer : List ℕ) (a : Access) (w : registers_long register
       ap (λ (n : ℕ). by_refusal n (translation_answer (translate r b a)) (refusal_answer n)) same ∙ by-test (eqb (unit_refusal r b a) 0)
     where
       by-test : (t : Bool) → cond t (translation_answer (translate r b a)) (refusal_answer (unit_refusal r b a))
-          ≡ raw_reply_answer (cond t (Answered (translate r b a)) (Refused (unit_refusal r b a) r))
+          ≡ raw_reply_answer (cond t (Ok (translate r b a)) (raw_refused (unit_refusal r b a) r))
       by-test true = refl
       by-test false = refl
 
@@ -67,7 +68,7 @@ module _ (registers buffer : List ℕ) (a : Access) (w : registers_long register
     where
       by-test : (t : Bool) → eqb (unit_refusal r b a) 0 ≡ t
           → registers_of (cond t (register_bytes (translate r b a).registers) registers)
-          ≡ registers_replied (cond t (Answered (translate r b a)) (Refused (unit_refusal r b a) r))
+          ≡ registers_replied (cond t (Ok (translate r b a)) (raw_refused (unit_refusal r b a) r))
       by-test true e =
           registers-trip (translate r b a).registers
           (translate-fits r b a (raw-accepted r b a (eqb-true (unit_refusal r b a) 0 e)))

@@ -1,22 +1,20 @@
 -- A C host's raw access is the unit's. It is in no sequence of demand 3.
-use Rattle.std.specs.Prelude.{ℕ, ◌≤◌, ◌≡◌, true, false, ◌&&◌, List}
+use Rattle.std.specs.Prelude.{ℕ, ◌≤◌, ◌≡◌, true, false, ◌&&◌, List, Ok, Err}
 use Rattle.registers.specs.declared.Access.{Access}
 use Rattle.registers.specs.declared.Registers.{Registers}
-use Rattle.mmu.specs.RawAccess.{raw_reply}
-use Rattle.mmu.specs.declared.RawReply.{RawReply}
-use Rattle.mmu.specs.declared.RawReply.TheVariants.{Answered, Refused}
+use Rattle.mmu.specs.RawAccess.{RawReply, raw_reply}
 use Rattle.mmu_c.specs.Runs.{registers_of, buffer_of, registers_long, buffer_taken}
 use Rattle.mmu_c.specs.Answers.{refusal_answer, translation_answer}
 use Rattle.mmu_c.specs.RawAccess.{raw_refusal, RawAccessGives}
 
 -- a reply's answer, and its registers
 unfoldable pub raw_reply_answer : RawReply → ℕ
-raw_reply_answer (Answered t) = translation_answer t
-raw_reply_answer (Refused number r) = refusal_answer number
+raw_reply_answer (Ok t) = translation_answer t
+raw_reply_answer (Err refused) = refusal_answer refused.number
 
 unfoldable pub registers_replied : RawReply → Registers
-registers_replied (Answered t) = t.registers
-registers_replied (Refused number r) = r
+registers_replied (Ok t) = t.registers
+registers_replied (Err refused) = refused.registers
 
 -- with right lengths, accepted or refused: the answer, and the registers in the bytes at its end
 pub record IsUnitRawAccess (registers buffer : List ℕ) (a : Access) (answer : ℕ) (registers-after : List ℕ) : Type 0 where

@@ -4,10 +4,9 @@ use mathlib.Core.Path.{◌≡◌, refl, sym, ap, ap₂, ◌∙◌}
 use mathlib.Core.Bool.{Bool, true, false, cond}
 use mathlib.Core.List.{List, [], ◌∷◌, ◌++◌, append_assoc, append-nil}
 use native.Mathlib.Nat.{pow-suc, mod-lt, zero-add}
-use native.Mathlib.Numerals.{add-one}
 use native.Mathlib.Omega.{arith}
-use lib.ListN.{length, get_or, set, take, drop, length-set, length-append, length-drop, drop_of_length-le}
-use lib.Seq.{drop-cons, drop-set-lt, get_or-set_same, drop-drop, take_at, drop_at, take-length, length-take-le, paste, paste-zero, paste-suc}
+use lib.ListN.{length, set, take, drop, length-set, length-append, length-drop, drop_of_length-le}
+use lib.Seq.{drop-cons, drop-set-lt, get_or-set_same, drop-drop, take_at, drop_at, length-take-le}
 use lib.Dec.{ltb}
 use borrow.Rule.Slice.PartMut.{put_mid, mid_of, mid_len}
 use borrow.Author.Tests.{lt-ltb, le-ltb, ltb-false}
@@ -155,38 +154,13 @@ spelt-put base run at to count n part e h q =
           ∙ laid run at (to - at) (digits base count n) (k ∙ sym wide);
     }
 
--- a loop that copies a text into a run from an index on: i bytes are copied
-module _ (run : List ℕ) (at : ℕ) (text : List ℕ) where
-  pub record Copied (now : List ℕ) (i : ℕ) : Type 0 where
-    pub some : i ≤ length text
-    pub long : length now ≡ length run
-    pub same : now ≡ paste run at text i
-
-  pub copied_none : Copied run 0
-  copied_none = record { some = omega arith; long = refl; same = paste-zero run at text }
-
-  pub copied_more : (now : List ℕ) (i : ℕ) → Copied now i → i < length text → at + length text ≤ length run
-      → Copied (set now (at + i) (get_or text i 0)) (i + 1)
-  copied_more now i r l h = record {
-    some = omega arith;
-    long = simp length-set r.long;
-    same =
-        ap (λ (s : List ℕ). set s (at + i) (get_or text i 0)) r.same
-        ∙ paste-suc run at text i 0 (omega arith) l
-        ∙ ap (paste run at text) (sym (add-one i));
-  }
-
-  pub copied_all : (now : List ℕ) (i : ℕ) → Copied now i → length text ≤ i → TextPut run at text (at + length text) now
-  unfolding overwritten
-  copied_all now i r l =
-      let e : i ≡ length text = omega (arith, r.some) in
-      record {
-        behind-is = refl;
-        run_is =
-            r.same
-            ∙ rw (e, take-length text)
-            (append_assoc (take at run) text (drop (at + length text) run));
-      }
+-- a part that a text was copied to
+pub copied-put : (run : List ℕ) (at : ℕ) (text : List ℕ) (to : ℕ) (part : List ℕ) → to ≡ at + length text → part ≡ text
+    → TextPut run at text to (put_mid at (to - at) run part)
+copied-put run at text to part e q = record {
+  behind-is = e;
+  run_is = ap (put_mid at (to - at) run) q ∙ laid run at (to - at) text (omega arith);
+}
 
 -- a text and another one behind it
 pub put_then : (run middle after : List ℕ) (at between behind : ℕ) (a b : List ℕ) → TextPut run at a between middle

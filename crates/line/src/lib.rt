@@ -3,13 +3,12 @@
 
 mod text;
 
-ghost use Rattle.std.specs.Prelude.{◌≡◌, ◌+◌, ◌≤◌, length};
+ghost use Rattle.std.specs.Prelude.{◌≡◌, ◌+◌, ◌≤◌};
 ghost use Rattle.line.specs.Lines.{head_of, line_of, value_of, word_of};
-ghost use Rattle.line.specs.Text.{TextPut};
+ghost use Rattle.line.specs.Writing.{Grows, HasRoom};
 
-use crate::text::put_hex;
 use registers::{Outcome, Reply};
-pub use text::{put_decimal, put_text};
+pub use text::Text;
 
 // The number that a line shows.
 fn value_of(outcome: Outcome) -> u32
@@ -23,38 +22,40 @@ fn value_of(outcome: Outcome) -> u32
     }
 }
 
-// Writes the outcome's word, with a space on either side.
-fn put_word(out: &mut [u8], at: usize, outcome: Outcome) -> usize
-    requires { at + 9 ≤ length out.old }
-    ensures { TextPut out.old at (word_of outcome) result out.new }
+// Puts the outcome's word, with a space on either side.
+fn put_word(text: &mut Text<'_>, outcome: Outcome)
+    requires { HasRoom text.old 9 }
+    ensures same { text.new.bytes.ghost_name ≡ text.old.bytes.ghost_name }
+    ensures word { Grows text.old text.new (word_of outcome) }
 {
     match outcome {
-        Outcome::At(_) => put_text(out, at, b" at "),
-        Outcome::Fault(_) => put_text(out, at, b" fault "),
-        Outcome::Done(_) => put_text(out, at, b" done "),
-        Outcome::Refused(_) => put_text(out, at, b" refused "),
+        Outcome::At(_) => text.put(b" at "),
+        Outcome::Fault(_) => text.put(b" fault "),
+        Outcome::Done(_) => text.put(b" done "),
+        Outcome::Refused(_) => text.put(b" refused "),
     }
 }
 
-// Writes a record's number, the word and the value.
-fn put_head(out: &mut [u8], at: usize, number: u64, outcome: Outcome) -> usize
-    requires { at + 37 ≤ length out.old }
-    ensures { TextPut out.old at (head_of number outcome) result out.new }
+// Puts a record's number, the word and the value.
+fn put_head(text: &mut Text<'_>, number: u64, outcome: Outcome)
+    requires { HasRoom text.old 37 }
+    ensures same { text.new.bytes.ghost_name ≡ text.old.bytes.ghost_name }
+    ensures head { Grows text.old text.new (head_of number outcome) }
 {
-    let word = put_decimal(out, at, number);
-    let value = put_word(out, word, outcome);
-    put_hex(out, value, value_of(outcome))
+    text.put_decimal(number);
+    put_word(text, outcome);
+    text.put_hex(value_of(outcome));
 }
 
-// Writes the line of a record's number and reply, and answers the index behind it. A line has at most 49 bytes.
-pub fn put_line(out: &mut [u8], at: usize, number: u64, reply: Reply) -> usize
-    requires { at + 49 ≤ length out.old }
-    ensures line { TextPut out.old at (line_of number reply) result out.new }
-    ensures room { result ≤ at + 49 }
+// Puts the line of a record's number and reply. A line has at most 49 bytes.
+pub fn put_line(text: &mut Text<'_>, number: u64, reply: Reply)
+    requires { HasRoom text.old 49 }
+    ensures same { text.new.bytes.ghost_name ≡ text.old.bytes.ghost_name }
+    ensures line { Grows text.old text.new (line_of number reply) }
+    ensures room { text.new.length ≤ text.old.length + 49 }
 {
-    let outcome = reply.outcome;
-    let space = put_head(out, at, number, outcome);
-    let loads = put_text(out, space, b" ");
-    let end = put_decimal(out, loads, reply.loads as u64);
-    put_text(out, end, b"\n")
+    put_head(text, number, reply.outcome);
+    text.put(b" ");
+    text.put_decimal(reply.loads as u64);
+    text.put(b"\n");
 }

@@ -1,7 +1,51 @@
-// Text written into a run of bytes from an index on, in ASCII. Each function answers the index behind what it wrote.
+// Text written into a run of bytes, in ASCII.
 ghost use Rattle.std.specs.Prelude.{◌≡◌, ◌+◌, ◌≤◌, ◌<◌, length};
-ghost use Rattle.line.specs.Text.{TextPut, decimal, decimal_length, digits, hex};
+ghost use Rattle.line.specs.Text.{decimal, decimal_length, digits, hex};
 ghost use Rattle.line.specs.Text as text;
+ghost use Rattle.line.specs.Writing.{Grows, HasRoom};
+
+// A run with a text at its start, of so many bytes. std's writers over a slice don't serve: no clause says which bytes `write_all` and `write!`
+// leave there, and each answers a Result.
+#[derive(Drop)]
+pub struct Text<'a> {
+    pub bytes: &'a mut [u8],
+    pub length: usize,
+}
+
+impl Text<'_> {
+    // Puts a text behind it.
+    pub fn put(&mut self, text: &[u8])
+        requires { HasRoom self.old (length text.now) }
+        ensures same { self.new.bytes.ghost_name ≡ self.old.bytes.ghost_name }
+        ensures grows { Grows self.old self.new text.now }
+    {
+        let to = self.length + text.len();
+        self.bytes[self.length..to].copy_from_slice(text);
+        self.length = to;
+    }
+
+    // Puts a number in decimal.
+    pub fn put_decimal(&mut self, n: u64)
+        requires { HasRoom self.old (decimal_length n) }
+        ensures same { self.new.bytes.ghost_name ≡ self.old.bytes.ghost_name }
+        ensures grows { Grows self.old self.new (decimal n) }
+    {
+        let to = self.length + decimal_length(n);
+        fill_digits(&mut self.bytes[self.length..to], 10, n);
+        self.length = to;
+    }
+
+    // Puts eight hexadecimal digits.
+    pub(crate) fn put_hex(&mut self, n: u32)
+        requires { HasRoom self.old 8 }
+        ensures same { self.new.bytes.ghost_name ≡ self.old.bytes.ghost_name }
+        ensures grows { Grows self.old self.new (hex n) }
+    {
+        let to = self.length + 8;
+        fill_digits(&mut self.bytes[self.length..to], 16, n as u64);
+        self.length = to;
+    }
+}
 
 // 0 to 9, then A to F.
 fn digit(d: u64) -> u8
@@ -17,15 +61,13 @@ fn fill_digits(part: &mut [u8], base: u64, n: u64)
     ensures { part.new ≡ digits base (length part.old) n }
 {
     let mut rest = n;
-    let mut left = part.len();
-    while 0 < left {
-        left -= 1;
-        part[left] = digit(rest % base);
+    for place in (0..part.len()).rev() {
+        part[place] = digit(rest % base);
         rest /= base;
     }
 }
 
-// How many decimal digits a number has.
+// How many decimal digits a number has. The loop is a `while`, since std has no `ilog10` here.
 fn decimal_length(n: u64) -> usize
     ensures { (result ≡ decimal_length n) × (result ≤ 20) }
 {
@@ -36,38 +78,4 @@ fn decimal_length(n: u64) -> usize
         count += 1;
     }
     count
-}
-
-// Writes a text.
-pub fn put_text(out: &mut [u8], at: usize, text: &[u8]) -> usize
-    requires { at + length text.now ≤ length out.old }
-    ensures { TextPut out.old at text.now result out.new }
-{
-    let n = text.len();
-    let mut i: usize = 0;
-    while i < n {
-        out[at + i] = text[i];
-        i += 1;
-    }
-    at + n
-}
-
-// Writes a number in decimal.
-pub fn put_decimal(out: &mut [u8], at: usize, n: u64) -> usize
-    requires { at + decimal_length n ≤ length out.old }
-    ensures { TextPut out.old at (decimal n) result out.new }
-{
-    let to = at + decimal_length(n);
-    fill_digits(&mut out[at..to], 10, n);
-    to
-}
-
-// Writes eight hexadecimal digits.
-pub(crate) fn put_hex(out: &mut [u8], at: usize, n: u32) -> usize
-    requires { at + 8 ≤ length out.old }
-    ensures { TextPut out.old at (hex n) result out.new }
-{
-    let to = at + 8;
-    fill_digits(&mut out[at..to], 16, n as u64);
-    to
 }

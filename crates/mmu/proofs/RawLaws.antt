@@ -12,9 +12,8 @@ use Rattle.registers.specs.declared.Access.{Access}
 use Rattle.registers.specs.declared.Registers.{Registers}
 use Rattle.slots.specs.Buffer.{Buffer, buffer_fits}
 use Rattle.access.specs.Translation.{Accepted, translate}
-use Rattle.mmu.specs.RawAccess.{raw_refusal, raw_reply, raw_refusal_of, RawAccessGives}
-use Rattle.mmu.specs.declared.RawReply.{RawReply}
-use Rattle.mmu.specs.declared.RawReply.TheVariants.{Answered, Refused}
+use Rattle.mmu.specs.RawAccess.{RawReply, raw_refused, raw_refusal, raw_reply, raw_refusal_of, RawAccessGives}
+use Rattle.std.specs.Prelude.{Ok}
 
 pub raw-accepted : (r : Registers) (b : Buffer) (a : Access) → raw_refusal r b a ≡ 0 → Accepted r b a
 unfolding raw_refusal
@@ -31,6 +30,6 @@ raw-gives r b a reply q = record { refusal_is = ap raw_refusal_of q ∙ number (
     n : ℕ
     n = raw_refusal r b a
 
-    number : (t : Bool) → eqb n 0 ≡ t → raw_refusal_of (cond t (Answered (translate r b a)) (Refused n r)) ≡ n
+    number : (t : Bool) → eqb n 0 ≡ t → raw_refusal_of (cond t (Ok (translate r b a)) (raw_refused n r)) ≡ n
     number true e = sym (eqb-true n 0 e)
     number false e = refl

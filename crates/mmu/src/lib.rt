@@ -2,6 +2,7 @@
 #![tactic(auto)]
 
 ghost use Rattle.std.specs.Prelude.{◌≡◌, ◌≤◌, length};
+ghost use Rattle.registers.specs.Numbers.{refusal_number};
 ghost use Rattle.registers.specs.Refusals.{draw_fits};
 ghost use Rattle.page_table.specs.Stretches.{ROOTS};
 ghost use Rattle.slots.specs.Buffer.{Buffer};
@@ -12,16 +13,16 @@ ghost use Rattle.mmu.specs.ServedAccess.{tried_reply};
 
 use access::{MISS, Translation};
 use page_table::{Found, Walk};
-use registers::{Access, Outcome, Registers, Reply, refusals};
+use registers::{Access, Outcome, Refusal, Registers, Reply};
 
 // The number of the register SELECT.
 const SELECT: u32 = 6;
 
-// What a raw access replies: its answers and registers, or the refusal's number and the registers received.
+// A raw access that was refused: the refusal's number, and the registers received.
 #[derive(Clone, Copy)]
-pub enum RawReply {
-    Answered(Translation),
-    Refused(u32, Registers),
+pub struct Refused {
+    pub number: u32,
+    pub registers: Registers,
 }
 
 // The draw is the number of a set.
@@ -31,19 +32,19 @@ fn draw_fits(draw: u32) -> bool
     draw <= 3
 }
 
-fn raw_refusal(r: Registers, buffer: &[u64], a: Access) -> u32
-    ensures { result ≡ raw_refusal r (Buffer.Wide buffer.now) a }
+fn raw_refusal(r: Registers, buffer: &[u64], a: Access) -> Result<(), Refusal>
+    ensures { refusal_number result ≡ raw_refusal r (Buffer.Wide buffer.now) a }
 {
     if !registers::registers_fit(r) {
-        return refusals::REGISTERS;
+        return Err(Refusal::Registers);
     }
     if !slots::buffer_fits(buffer) {
-        return refusals::BUFFER;
+        return Err(Refusal::Buffer);
     }
     if !draw_fits(a.draw) {
-        return refusals::DRAW;
+        return Err(Refusal::Draw);
     }
-    0
+    Ok(())
 }
 
 // One raw access.
@@ -54,7 +55,7 @@ pub fn raw_access(
     user: bool,
     write: bool,
     draw: u32,
-) -> RawReply
+) -> Result<Translation, Refused>
     ensures { RawAccessGives r (Buffer.Wide buffer.now)
         (record { address = address; user = user; write = write; draw = draw }) result }
 {
@@ -64,12 +65,13 @@ pub fn raw_access(
         write,
         draw,
     };
-    let refusal = raw_refusal(r, buffer, a);
-    if refusal != 0 {
-        return RawReply::Refused(refusal, r);
+    if let Err(refusal) = raw_refusal(r, buffer, a) {
+        return Err(Refused {
+            number: u32::from(refusal),
+            registers: r,
+        });
     }
-    let answer = access::translate(r, buffer, a);
-    RawReply::Answered(answer)
+    Ok(access::translate(r, buffer, a))
 }
 
 // Test mode and context 63 are not served.
@@ -80,30 +82,27 @@ fn may_be_served(r: Registers) -> bool
 }
 
 // The last two of a served access's checks.
-pub fn service_refusal(r: Registers, draw: u32) -> u32
-    ensures { result ≡ service_refusal r draw }
+pub fn service_refusal(r: Registers, draw: u32) -> Result<(), Refusal>
+    ensures { refusal_number result ≡ service_refusal r draw }
 {
     if !draw_fits(draw) {
-        return refusals::DRAW;
+        return Err(Refusal::Draw);
     }
     if !may_be_served(r) {
-        return refusals::SERVICE;
+        return Err(Refusal::Service);
     }
-    0
+    Ok(())
 }
 
-fn served_refusal(r: Registers, buffer: &[u64], words: &[u32], a: Access) -> u32
-    ensures { result ≡ served_refusal
+fn served_refusal(r: Registers, buffer: &[u64], words: &[u32], a: Access) -> Result<(), Refusal>
+    ensures { refusal_number result ≡ served_refusal
         (record { registers = r; buffer = Buffer.Wide buffer.now; words = words.now }) a }
 {
-    let early = registers::machine_refusal(
+    registers::machine_refusal(
         registers::registers_fit(r),
         slots::buffer_fits(buffer),
         page_table::tables_fit(words),
-    );
-    if early != 0 {
-        return early;
-    }
+    )?;
     service_refusal(r, a.draw)
 }
 
@@ -173,9 +172,8 @@ pub fn served_access(
         write,
         draw,
     };
-    let number = served_refusal(r, buffer, words, a);
-    if number != 0 {
-        return registers::refused(r, number);
+    if let Err(refusal) = served_refusal(r, buffer, words, a) {
+        return registers::refused(r, u32::from(refusal));
     }
     serve(r, buffer, words, a)
 }

@@ -1,8 +1,10 @@
 -- The 64-bit answer of the C calls, by its bits: 0 to 31 the address, or the slots that a store emptied; 32 to 47 the exception or fault
 -- value; 48 to 51 the loads; 52 there is an address; 53 it interrupts; 54 there was an exception or a fault; 56 to 63 a refusal's
 -- number, and all else then 0.
-use Rattle.std.specs.Prelude.{ℕ, ◌+◌, ◌*◌, ◌^◌, Bool, true, false, ltb, Option, Some, None}
+use Rattle.std.specs.Prelude.{ℕ, ◌+◌, ◌*◌, ◌^◌, Bool, true, false, ltb, Option, Some, None, Result, Ok, Err}
 use Rattle.runs.specs.Bits.{bit}
+use Rattle.registers.specs.Numbers.{number_of}
+use Rattle.registers.specs.declared.refusals.Refusal.{Refusal}
 use Rattle.registers.specs.declared.Outcome.{Outcome}
 use Rattle.registers.specs.declared.Outcome.TheVariants.{At, Fault, Done, Refused}
 use Rattle.registers.specs.declared.Reply.{Reply}
@@ -10,6 +12,11 @@ use Rattle.access.specs.declared.Translation.{Translation}
 
 unfoldable pub refusal_answer : (number : ℕ) → ℕ
 refusal_answer number = number * 2 ^ 56
+
+-- the answer of a call: what it gives, or its refusal's
+abbrev pub answer_of : Result ℕ Refusal → ℕ
+answer_of (Ok answer) = answer
+answer_of (Err refusal) = refusal_answer (number_of refusal)
 
 -- the bits of an access's answer below the refusal's
 unfoldable pub access_answer : (address value loads : ℕ) (located interrupts exception : Bool) → ℕ

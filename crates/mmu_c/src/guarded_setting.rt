@@ -1,7 +1,7 @@
 // The C call guarded setting.
 ghost use Rattle.mmu_c.specs.GuardedSetting.{GuardedSettingGives};
 
-use registers::refusals;
+use registers::Refusal;
 
 // Sets a guarded register.
 pub fn mmu_guarded_setting(registers: &mut [u8], number: u32, value: u32) -> u64
@@ -9,7 +9,7 @@ pub fn mmu_guarded_setting(registers: &mut [u8], number: u32, value: u32) -> u64
 {
     let long = registers.len() == crate::REGISTER_BYTES;
     if !long {
-        return crate::refusal_answer(refusals::REGISTERS);
+        return crate::answer_of(Err(Refusal::Registers));
     }
     let r = crate::registers_of(registers);
     let reply = control::guarded_setting(r, number, value);
@@ -19,6 +19,6 @@ pub fn mmu_guarded_setting(registers: &mut [u8], number: u32, value: u32) -> u64
     if !accepted {
         return answer;
     }
-    wire::put_word(registers, number as usize, value);
+    wire::write(registers, number as usize, value);
     answer
 }

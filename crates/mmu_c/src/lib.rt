@@ -12,13 +12,13 @@ ghost use Rattle.runs.specs.Bits.{bit};
 ghost use Rattle.wire.specs.Wire.{AreBytes};
 ghost use Rattle.entry.specs.Address.{vpn_of};
 ghost use Rattle.access.specs.Translation.{Accepted, translate};
-ghost use Rattle.mmu_c.specs.Answers.{access_answer, outcome_fits, refusal_answer, reply_answer, translation_answer};
+ghost use Rattle.mmu_c.specs.Answers.{access_answer, answer_of, outcome_fits, refusal_answer, reply_answer, translation_answer};
 ghost use Rattle.mmu_c.specs.Location.{Fetched};
 ghost use Rattle.mmu_c.specs.Runs.{BUFFER_BYTES, REGISTER_BYTES};
 ghost use Rattle.mmu_c.specs.Runs.{buffer_of, buffer_taken, register_bytes, registers_of, registers_taken, tables_taken};
 
 use access::Translation;
-use registers::{Access, Outcome, Registers, Reply};
+use registers::{Access, Outcome, Refusal, Registers, Reply};
 
 // The weights of the answer's fields.
 const BIT_32: u64 = 1 << 32;
@@ -49,6 +49,16 @@ fn refusal_answer(number: u32) -> u64
     number as u64 * BIT_56
 }
 
+// The answer of a call: what it gives, or its refusal's.
+fn answer_of(given: Result<u64, Refusal>) -> u64
+    ensures { result ≡ answer_of given }
+{
+    match given {
+        Ok(answer) => answer,
+        Err(refusal) => refusal_answer(u32::from(refusal)),
+    }
+}
+
 fn bit(flag: bool) -> u64
     ensures { (result ≡ bit flag) × (result ≤ 1) }
 {
@@ -77,14 +87,7 @@ fn translation_answer(t: Translation) -> u64
 {
     let physical = t.physical;
     match physical {
-        Some(address) => access_answer(
-            address,
-            t.value,
-            0,
-            true,
-            t.interrupt,
-            t.exception,
-        ),
+        Some(address) => access_answer(address, t.value, 0, true, t.interrupt, t.exception),
         None => access_answer(0, t.value, 0, false, t.interrupt, t.exception),
     }
 }
@@ -109,7 +112,7 @@ fn registers_of(bytes: &[u8]) -> Registers
     ensures bytes { AreBytes bytes.now }
 {
     let mut words = [0u32; 11];
-    wire::decode32(bytes, &mut words);
+    wire::decode(bytes, &mut words);
     registers::from_words(words)
 }
 
@@ -118,7 +121,7 @@ fn put_registers(bytes: &mut [u8], r: Registers)
     ensures { bytes.new ≡ register_bytes r }
 {
     let words = registers::to_words(r);
-    wire::encode32(&words, bytes);
+    wire::encode(&words, bytes);
 }
 
 // 44 bytes, and no field exceeds its bits.
@@ -151,11 +154,9 @@ fn fetch(buffer: &[u8], slots: &mut [u64], vpn: u32)
     requires { (length buffer.now ≡ BUFFER_BYTES) × (length slots.old ≡ 64) }
     ensures { Fetched buffer.now slots.new vpn }
 {
-    let mut set: u32 = 0;
-    while set < 4 {
+    for set in 0..4 {
         let slot = entry::slot_of(set, vpn) as usize;
-        slots[slot] = wire::number_at(buffer, slot);
-        set += 1;
+        slots[slot] = wire::read(buffer, slot);
     }
 }
 

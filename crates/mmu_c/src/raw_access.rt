@@ -1,48 +1,51 @@
 // The C call raw access.
 ghost use Rattle.std.specs.Prelude.{◌≡◌, length};
+ghost use Rattle.registers.specs.Numbers.{refusal_number};
+ghost use Rattle.mmu_c.specs.Answers.{answer_of};
 ghost use Rattle.mmu_c.specs.RawAccess.{RawAccessGives, long_refusal};
 
-use registers::{Access, Registers, refusals};
+use registers::{Access, Refusal, Registers};
 
 // The refusal once the registers are 44 bytes.
-fn raw_refusal(r: Registers, buffer: &[u8], a: Access) -> u32
-    ensures { result ≡ long_refusal r buffer.now a }
+fn raw_refusal(r: Registers, buffer: &[u8], a: Access) -> Result<(), Refusal>
+    ensures { refusal_number result ≡ long_refusal r buffer.now a }
 {
     if !registers::registers_fit(r) {
-        return refusals::REGISTERS;
+        return Err(Refusal::Registers);
     }
     if !crate::buffer_taken(buffer) {
-        return refusals::BUFFER;
+        return Err(Refusal::Buffer);
     }
     let draw_fits = a.draw <= 3;
     if !draw_fits {
-        return refusals::DRAW;
+        return Err(Refusal::Draw);
     }
-    0
+    Ok(())
 }
 
-fn raw_with(registers: &mut [u8], buffer: &[u8], slots: &mut [u64], a: Access) -> u64
+fn raw_with(
+    registers: &mut [u8],
+    buffer: &[u8],
+    slots: &mut [u64],
+    a: Access,
+) -> Result<u64, Refusal>
     requires { length slots.old ≡ 64 }
-    ensures { RawAccessGives registers.old buffer.now a result registers.new }
+    ensures { RawAccessGives registers.old buffer.now a (answer_of result) registers.new }
 {
     let long = registers.len() == crate::REGISTER_BYTES;
     if !long {
-        return crate::refusal_answer(refusals::REGISTERS);
+        return Err(Refusal::Registers);
     }
     let r = crate::registers_of(registers);
-    let refusal = raw_refusal(r, buffer, a);
-    let accepted = refusal == 0;
-    if !accepted {
-        return crate::refusal_answer(refusal);
-    }
+    raw_refusal(r, buffer, a)?;
     let t = crate::first_try(r, buffer, slots, a);
     // Without an exception the registers are as they were.
     if !t.exception {
-        return crate::translation_answer(t);
+        return Ok(crate::translation_answer(t));
     }
     let after = t.registers;
     crate::put_registers(registers, after);
-    crate::translation_answer(t)
+    Ok(crate::translation_answer(t))
 }
 
 // One raw access.
@@ -64,5 +67,5 @@ pub fn mmu_raw_access(
         draw,
     };
     let mut slots = [0u64; 64];
-    raw_with(registers, buffer, &mut slots, a)
+    crate::answer_of(raw_with(registers, buffer, &mut slots, a))
 }

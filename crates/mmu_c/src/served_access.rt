@@ -3,32 +3,30 @@ ghost use Rattle.std.specs.Prelude.{true, ◌≡◌, ◌*◌, ◌≤◌, ◌<◌
 ghost use Rattle.entry.specs.Address.{vpn_of};
 ghost use Rattle.registers.specs.Fields.{registers_fit};
 ghost use Rattle.page_table.specs.Stretches.{ROOTS};
+ghost use Rattle.registers.specs.Numbers.{refusal_number};
 ghost use Rattle.registers.specs.Refusals.{machine_refusal};
 ghost use Rattle.access.specs.Translation.{Accepted, translate};
 ghost use Rattle.mmu.specs.ServedAccess.{service_refusal};
 ghost use Rattle.table_bytes.specs.TableBytes.{words_of};
+ghost use Rattle.mmu_c.specs.Answers.{answer_of};
 ghost use Rattle.mmu_c.specs.Location.{Fetched, put_back};
 ghost use Rattle.mmu_c.specs.Runs.{BUFFER_BYTES, buffer_of, buffer_taken, tables_taken};
 ghost use Rattle.mmu_c.specs.ServedAccess.{AccessGivesBytes, ServedAccessGives};
 
 use access::{MISS, Translation};
 use page_table::Walk;
-use registers::{Access, Outcome, Registers, Reply, refusals};
+use registers::{Access, Outcome, Refusal, Registers, Reply};
 
 // The refusal once the registers are 44 bytes.
-fn served_refusal(r: Registers, buffer: &[u8], tables: &[u8], a: Access) -> u32
-    ensures { result ≡ machine_refusal (registers_fit r) (buffer_taken buffer.now) (tables_taken tables.now)
+fn served_refusal(r: Registers, buffer: &[u8], tables: &[u8], a: Access) -> Result<(), Refusal>
+    ensures { refusal_number result ≡ machine_refusal (registers_fit r) (buffer_taken buffer.now) (tables_taken tables.now)
         (service_refusal r a.draw) }
 {
-    let early = registers::machine_refusal(
+    registers::machine_refusal(
         registers::registers_fit(r),
         crate::buffer_taken(buffer),
         crate::tables_taken(tables),
-    );
-    let passed = early == 0;
-    if !passed {
-        return early;
-    }
+    )?;
     mmu::service_refusal(r, a.draw)
 }
 
@@ -37,11 +35,9 @@ fn put_back(slots: &[u64], buffer: &mut [u8], vpn: u32)
     requires { (length slots.now ≡ 64) × (length buffer.old ≡ BUFFER_BYTES) }
     ensures { buffer.new ≡ put_back slots.now vpn 4 buffer.old }
 {
-    let mut set: u32 = 0;
-    while set < 4 {
+    for set in 0..4 {
         let slot = entry::slot_of(set, vpn) as usize;
-        wire::put_number(buffer, slot, slots[slot]);
-        set += 1;
+        wire::write(buffer, slot, slots[slot]);
     }
 }
 
@@ -81,30 +77,26 @@ fn served_with(
     tables: &[u8],
     slots: &mut [u64],
     a: Access,
-) -> u64
+) -> Result<u64, Refusal>
     requires { length slots.old ≡ 64 }
-    ensures { ServedAccessGives registers.old buffer.old tables.now a result
+    ensures { ServedAccessGives registers.old buffer.old tables.now a (answer_of result)
         registers.new buffer.new }
 {
     let long = registers.len() == crate::REGISTER_BYTES;
     if !long {
-        return crate::refusal_answer(refusals::REGISTERS);
+        return Err(Refusal::Registers);
     }
     let r = crate::registers_of(registers);
-    let refusal = served_refusal(r, buffer, tables, a);
-    let accepted = refusal == 0;
-    if !accepted {
-        return crate::refusal_answer(refusal);
-    }
+    served_refusal(r, buffer, tables, a)?;
     let first = crate::first_try(r, buffer, slots, a);
     // Without an exception the registers and the buffer are as they were.
     if !first.exception {
-        return crate::translation_answer(first);
+        return Ok(crate::translation_answer(first));
     }
     let reply = serve(r, first, buffer, tables, slots, a);
     let after = reply.registers;
     crate::put_registers(registers, after);
-    crate::reply_answer(reply)
+    Ok(crate::reply_answer(reply))
 }
 
 // One served access.
@@ -127,5 +119,5 @@ pub fn mmu_served_access(
         draw,
     };
     let mut slots = [0u64; 64];
-    served_with(registers, buffer, tables, &mut slots, a)
+    crate::answer_of(served_with(registers, buffer, tables, &mut slots, a))
 }

@@ -1,26 +1,24 @@
 // The C call table store.
 ghost use Rattle.std.specs.Prelude.{◌≡◌, ◌≤◌, ◌<◌, length};
+ghost use Rattle.registers.specs.Numbers.{refusal_number};
+ghost use Rattle.mmu_c.specs.Answers.{answer_of};
 ghost use Rattle.mmu_c.specs.TableStore.{TableStoreGives, store_refusal};
 
-use registers::refusals;
+use registers::Refusal;
 
-fn store_refusal(registers: &[u8], buffer: &[u8], tables: &[u8], index: u32) -> u32
-    ensures { result ≡ store_refusal registers.now buffer.now tables.now index }
+fn store_refusal(registers: &[u8], buffer: &[u8], tables: &[u8], index: u32) -> Result<(), Refusal>
+    ensures { refusal_number result ≡ store_refusal registers.now buffer.now tables.now index }
 {
-    let early = registers::machine_refusal(
+    registers::machine_refusal(
         crate::registers_taken(registers),
         crate::buffer_taken(buffer),
         crate::tables_taken(tables),
-    );
-    let passed = early == 0;
-    if !passed {
-        return early;
-    }
+    )?;
     let index_fits = (index as usize) < tables.len() / 4;
     if !index_fits {
-        return refusals::INDEX;
+        return Err(Refusal::Index);
     }
-    0
+    Ok(())
 }
 
 fn store_with(
@@ -30,20 +28,16 @@ fn store_with(
     slots: &mut [u64],
     index: u32,
     value: u32,
-) -> u64
+) -> Result<u64, Refusal>
     requires { length slots.old ≡ 64 }
     ensures { TableStoreGives registers.now buffer.old tables.old
-        (record { index = index; value = value }) result buffer.new tables.new }
+        (record { index = index; value = value }) (answer_of result) buffer.new tables.new }
 {
-    let refusal = store_refusal(registers, buffer, tables, index);
-    let accepted = refusal == 0;
-    if !accepted {
-        return crate::refusal_answer(refusal);
-    }
-    wire::decode64(buffer, slots);
+    store_refusal(registers, buffer, tables, index)?;
+    wire::decode(buffer, slots);
     let emptied = table_bytes::rewrite(slots, tables, index, value);
-    wire::encode64(slots, buffer);
-    emptied as u64
+    wire::encode(slots, buffer);
+    Ok(emptied as u64)
 }
 
 // Writes one word of the page tables and judges every slot anew.
@@ -58,5 +52,5 @@ pub fn mmu_table_store(
         (record { index = index; value = value }) result buffer.new tables.new }
 {
     let mut slots = [0u64; 64];
-    store_with(registers, buffer, tables, &mut slots, index, value)
+    crate::answer_of(store_with(registers, buffer, tables, &mut slots, index, value))
 }

@@ -6,13 +6,14 @@ use mathlib.Core.List.{List}
 use native.Mathlib.Omega.{arith}
 use lib.ListN.{length, get_or, set, length-set}
 use lib.Seq.{get_or-set_same, get_or-set_other}
+use Rattle.std.specs.Prelude.{Result}
 use Rattle.runs.specs.Bits.{bits}
 use Rattle.mups16.specs.Set.{SetEntryGives}
 use Rattle.mups16.specs.InBits.{AcceptedInBits}
-use Rattle.mups16.specs.declared.Answer.{Answer}
+use Rattle.mups16.specs.declared.refusal.Refusal.{Refusal}
 use Rattle.mups16.proofs.InBits.{accepted-in-bits}
 
-module _ (before after : List ℕ) (set_at e : ℕ) (answer : Answer) (gave : SetEntryGives before set_at e after answer)
+module _ (before after : List ℕ) (set_at e : ℕ) (answer : Result (Unit {0}) Refusal) (gave : SetEntryGives before set_at e after answer)
     (long : length before ≡ 8192) where
   after_is : after ≡ set before (bits 12 0 set_at) (bits 18 0 e)
   unfolding AcceptedInBits

@@ -5,17 +5,16 @@ use mathlib.Core.Bool.{Bool, true, not, ◌&&◌}
 use native.Mathlib.Omega.{arith}
 use lib.Dec.{eqb}
 use lib.ListN.{get_or}
+use Rattle.std.specs.Prelude.{Ok}
 use Rattle.runs.specs.Bits.{bits, flag}
-use Rattle.mups16.specs.Entries.{entries_fit, place_of, entry_at, with_entry, mapped, system, writable, page_of}
-use Rattle.mups16.specs.States.{index_of, with_fault}
-use Rattle.mups16.specs.Faults.{no_mapping, write_violation, protection_violation, has_fault}
-use Rattle.mups16.specs.Map.{virtual_page, offset, boot_mapping, map_place, entry_mapping, state_after}
-use Rattle.mups16.specs.Read.{low_word, high_word, read_low, read_high}
+use Rattle.mups16.specs.Entries.{entries_fit, place_of, page_of}
+use Rattle.mups16.specs.States.{index_of}
+use Rattle.mups16.specs.Map.{offset, boot_mapping, entry_mapping, state_after}
+use Rattle.mups16.specs.Read.{high_word, read_low, read_high}
 use Rattle.mups16.specs.Set.{set_answer, entries_after_set}
 use Rattle.mups16.specs.InBits.{entry_address, mapping_by, boot_by, AcceptedInBits}
 use Rattle.mups16.specs.declared.State.{State}
 use Rattle.mups16.specs.declared.Mapping.{Mapping}
-use Rattle.mups16.specs.declared.Answer.TheVariants.{At, Word}
 use Rattle.mups16.specs.declared.MapReply.{MapReply}
 use Rattle.mups16.proofs.Refusing.{given}
 use Rattle.mups16.proofs.EntryLaws.{length-fits}
@@ -36,7 +35,6 @@ writable-of-bits : (e : ℕ) → flag 16 (bits 18 0 e) ≡ flag 16 e
 writable-of-bits e = flag-of-bits 16 e (omega arith)
 
 address-of-bits : (e virtual : ℕ) → page_of (bits 18 0 e) * 2 ^ 8 + offset virtual ≡ 256 * bits 15 0 e + bits 7 0 virtual
-unfolding page_of offset
 address-of-bits e virtual = omega arith
 
 pub low-of-bits : (e : ℕ) → bits 15 0 (bits 18 0 e) ≡ bits 15 0 e
@@ -46,7 +44,7 @@ pub high-of-bits : (index e : ℕ) → 256 * index + bits 18 16 (bits 18 0 e) �
 high-of-bits index e = omega arith
 
 entry-mapping-by : (e virtual : ℕ) (user write : Bool) → entry_mapping (bits 18 0 e) virtual user write ≡ mapping_by e virtual user write
-unfolding entry_mapping mapping_by no_mapping write_violation protection_violation mapped system writable
+unfolding mapping_by
 entry-mapping-by e virtual user write = λ j. record {
   address = address-of-bits e virtual j;
   no_mapping = not (mapped-of-bits e j);
@@ -66,34 +64,31 @@ mapping-of-bits e virtual user write = λ j. record {
 
 -- a map without a fault leaves the state
 boot-keeps : (s : State) (virtual : ℕ) → state_after s virtual (boot_mapping virtual) ≡ s
-unfolding state_after has_fault boot_mapping with_fault
 boot-keeps s virtual = refl
 
 boot-mapping-by : (virtual : ℕ) → boot_mapping virtual ≡ boot_by virtual
-unfolding boot_mapping boot_by
+unfolding boot_by
 boot-mapping-by virtual = refl
 
 high-word-by : (s : State) (e : ℕ) → high_word (index_of s) (bits 18 0 e) ≡ 256 * bits 4 0 s.table_index + bits 18 16 e
-unfolding high_word index_of
 high-word-by s e = omega arith
 
 pub accepted-in-bits : AcceptedInBits
-unfolding AcceptedInBits place_of entry_address map_place index_of virtual_page entry_at read_low read_high low_word page_of set_answer entries_after_set
-    with_entry
+unfolding AcceptedInBits entry_address read_low read_high set_answer entries_after_set
 accepted-in-bits entries long = record {
   boot-is = λ s b virtual user write reply g.
       map-gave entries s virtual user write reply fits g
-      ∙ ap (λ (m : Mapping). record { answer = At m; state = state_after s virtual m })
+      ∙ ap (λ (m : Mapping). record { answer = Ok m; state = state_after s virtual m })
       (sym (boot-made entries s virtual user write b (boot_mapping virtual) refl))
-      ∙ ap (λ (x : State). record { answer = At (boot_mapping virtual); state = x }) (boot-keeps s virtual)
-      ∙ ap (λ (m : Mapping). record { answer = At m; state = s }) (boot-mapping-by virtual);
+      ∙ ap (λ (x : State). record { answer = Ok (boot_mapping virtual); state = x }) (boot-keeps s virtual)
+      ∙ ap (λ (m : Mapping). record { answer = Ok m; state = s }) (boot-mapping-by virtual);
   map_is = λ s b virtual user write reply g.
       ap (λ (r : MapReply). r.answer) (map-gave entries s virtual user write reply fits g)
-      ∙ ap At
+      ∙ ap Ok
       (sym (entry-made entries s virtual user write b _ _ refl refl _ refl)
       ∙ entry-mapping-by (get_or entries (entry_address s virtual) 0) virtual user write);
-  low-is = λ at answer g. g.answer-is ∙ given entries _ _ fits ∙ ap Word (low-of-bits (get_or entries (place_of at) 0));
-  high_is = λ s at answer g. g.answer-is ∙ given entries _ _ fits ∙ ap Word (high-word-by s (get_or entries (place_of at) 0));
+  low-is = λ at answer g. g.answer-is ∙ given entries _ _ fits ∙ ap Ok (low-of-bits (get_or entries (place_of at) 0));
+  high_is = λ s at answer g. g.answer-is ∙ given entries _ _ fits ∙ ap Ok (high-word-by s (get_or entries (place_of at) 0));
   set_is = λ at e after answer g. (g.answer-is ∙ given entries _ _ fits, g.entries-are ∙ given entries _ _ fits);
 }
   where

@@ -1,18 +1,21 @@
 -- The ways through a map: premises are the tests and what the callees gave, in the order of the code. Assumes nothing.
-use Prim.Native.Nat.{ℕ, ◌+◌, ◌*◌}
+use Prim.Native.Nat.{ℕ}
 use mathlib.Core.Path.{◌≡◌, refl, sym, ap, ◌∙◌}
-use mathlib.Core.Bool.{Bool, true, false, cond, not, ◌&&◌}
+use mathlib.Core.Bool.{Bool, true, false, cond}
+use mathlib.Core.Logic.{◌≢◌}
 use mathlib.Core.List.{List}
-use Rattle.mups16.specs.Answers.{refusal_of, wrong_length}
-use Rattle.mups16.specs.Entries.{entries_fit, entry_at, mapped, system, writable, page_of}
-use Rattle.mups16.specs.States.{with_fault}
-use Rattle.mups16.specs.Faults.{no_mapping, write_violation, protection_violation, has_fault}
-use Rattle.mups16.specs.Map.{offset, boot_mapping, map_place, entry_mapping, mapping_of, state_after, map_reply, MapGives}
+use lib.ListN.{length}
+use Rattle.std.specs.Prelude.{Ok, Err}
+use Rattle.mups16.specs.Answers.{refusal_of}
+use Rattle.mups16.specs.Entries.{entry_at}
+use Rattle.mups16.specs.Map.{boot_mapping, map_place, entry_mapping, mapping_of, state_after, map_reply, MapGives}
 use Rattle.mups16.specs.declared.State.{State}
+use Rattle.mups16.specs.declared.refusal.Refusal.{Refusal}
+use Rattle.mups16.specs.declared.refusal.Refusal.TheVariants.{WrongLength}
 use Rattle.mups16.specs.declared.Mapping.{Mapping}
-use Rattle.mups16.specs.declared.Answer.TheVariants.{At}
 use Rattle.mups16.specs.declared.MapReply.{MapReply}
-use Rattle.mups16.proofs.Refusing.{told, when-accepted, when-refused}
+use Rattle.mups16.proofs.EntryLaws.{length-fits, length-wrong}
+use Rattle.mups16.proofs.Refusing.{told, given, not-given}
 
 module _ (entries : List ℕ) (s : State) (virtual : ℕ) (user write : Bool) where
   pub map_gives : (reply : MapReply) → reply ≡ map_reply entries s virtual user write → MapGives entries s virtual user write reply
@@ -36,41 +39,20 @@ module _ (entries : List ℕ) (s : State) (virtual : ℕ) (user write : Bool) wh
       ∙ ap (λ (n : ℕ). entry_mapping n virtual user write) (eq ∙ ap (entry_at entries) pq)
       ∙ sym (ap (λ (c : Bool). cond c (boot_mapping virtual) (entry_mapping (entry_at entries (map_place s virtual)) virtual user write)) b)
 
-  module _ (t : Bool) (tq : t ≡ entries_fit entries) where
-    pub map-refused : not t ≡ true → MapGives entries s virtual user write (record { answer = wrong_length; state = s })
-    unfolding map_reply
-    map-refused h = map_gives _ (when-refused entries t tq _ _ _ h refl)
+  pub map-refused : length entries ≢ 8192 → (refusal : Refusal) → refusal ≡ WrongLength
+      → MapGives entries s virtual user write (record { answer = Err refusal; state = s })
+  unfolding map_reply
+  map-refused d refusal q =
+      map_gives _
+      (ap (λ (x : Refusal). record { answer = Err x; state = s }) q ∙ sym (not-given entries _ _ (length-wrong entries d)))
 
-    pub map-done : not t ≡ false → (m : Mapping) → m ≡ mapping_of entries s virtual user write → (after : State)
-        → after ≡ state_after s virtual m
-        → MapGives entries s virtual user write (record { answer = At m; state = after })
-    unfolding map_reply
-    map-done h m q after aq =
-        map_gives _
-        (when-accepted entries t tq _ _ _ h
-        (ap (λ (x : State). record { answer = At m; state = x }) aq
-        ∙ ap (λ (n : Mapping). record { answer = At n; state = state_after s virtual n }) q))
-
--- the state after a map, by the test f that the code makes
-pub state-is : (s : State) (virtual : ℕ) (m : Mapping) (f : Bool) → f ≡ has_fault m → (fault : ℕ)
-    → fault ≡ cond f virtual s.fault_address → with_fault fault s ≡ state_after s virtual m
-unfolding state_after
-state-is s virtual m f fq fault q =
-    ap (λ (n : ℕ). with_fault n s) (q ∙ ap (λ (b : Bool). cond b virtual s.fault_address) fq)
-
--- a mapping by an entry, from its fields as the callees gave them
-pub mapping-by : (e virtual : ℕ) (user write : Bool) (page low : ℕ) → page ≡ page_of e → low ≡ offset virtual
-    → (m : Bool) → m ≡ mapped e → (w : Bool) → w ≡ writable e → (y : Bool) → y ≡ system e
-    → record {
-      address = page * 256 + low;
-      no_mapping = not m;
-      write_violation = write && not w;
-      protection_violation = user && y;
-    } ≡ entry_mapping e virtual user write
-unfolding entry_mapping no_mapping write_violation protection_violation
-mapping-by e virtual user write page low pq lq m mq w wq y yq = λ j. record {
-  address = pq j * 256 + lq j;
-  no_mapping = not (mq j);
-  write_violation = write && not (wq j);
-  protection_violation = user && yq j;
-}
+  pub map-done : length entries ≡ 8192 → (run : List ℕ) → run ≡ entries → (m : Mapping) → m ≡ mapping_of run s virtual user write
+      → (after : State) → after ≡ state_after s virtual m
+      → MapGives entries s virtual user write (record { answer = Ok m; state = after })
+  unfolding map_reply
+  map-done long run same m q after aq =
+      map_gives _
+      (ap (λ (x : State). record { answer = Ok m; state = x }) aq
+      ∙ ap (λ (n : Mapping). record { answer = Ok n; state = state_after s virtual n })
+      (q ∙ ap (λ (l : List ℕ). mapping_of l s virtual user write) same)
+      ∙ sym (given entries _ _ (length-fits entries long)))

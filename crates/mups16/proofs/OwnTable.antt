@@ -1,15 +1,13 @@
 -- A map depends on the entries of its own table alone, and in boot mode on none. Assumes nothing.
 use mathlib.Core.Path.{refl, sym, ◌∙◌}
-use Rattle.mups16.specs.Entries.{entry_at}
-use Rattle.mups16.specs.States.{index_of}
-use Rattle.mups16.specs.Map.{virtual_page, boot_mapping, map_place}
+use Rattle.mups16.specs.Map.{virtual_page, boot_mapping}
 use Rattle.mups16.specs.OwnTable.{SameTable, MapsAlike, OwnTable, BootNone}
 use Rattle.mups16.proofs.EntryLaws.{length-fits, page-lt}
 use Rattle.mups16.proofs.MapLaws.{boot-made}
 use Rattle.mups16.proofs.MapsAlike.{maps-alike, same-entry}
 
 pub own-table : OwnTable
-unfolding OwnTable SameTable MapsAlike map_place index_of entry_at
+unfolding OwnTable SameTable MapsAlike
 own-table s a b a-long b-long same virtual user write =
     maps-alike s a b (length-fits a a-long) (length-fits b b-long) virtual user write
     (same-entry s a b virtual user write (same (virtual_page virtual) (page-lt virtual)))

@@ -1,21 +1,21 @@
 -- Calls one after another, with what each answered and left, and the boot mode set between them. Each call is handed the state that the
 -- last one left, and any run.
-use Rattle.std.specs.Prelude.{ℕ, Bool, List, [], ◌∷◌}
+use Rattle.std.specs.Prelude.{ℕ, Bool, List, [], ◌∷◌, Result}
 use Rattle.mups16.specs.States.{with_boot_mode}
 use Rattle.mups16.specs.Map.{MapGives}
 use Rattle.mups16.specs.Read.{ReadLowGives, ReadHighGives, FaultAddressGives}
 use Rattle.mups16.specs.Set.{SetTableIndexGives, SetEntryGives}
 use Rattle.mups16.specs.declared.State.{State}
-use Rattle.mups16.specs.declared.Answer.{Answer}
+use Rattle.mups16.specs.declared.refusal.Refusal.{Refusal}
 use Rattle.mups16.specs.declared.MapReply.{MapReply}
 
 pub data Event : Type 0 where
   Map : (entries : List ℕ) (virtual : ℕ) (user write : Bool) (reply : MapReply) → Event
-  ReadLow : (entries : List ℕ) (at : ℕ) (answer : Answer) → Event
-  ReadHigh : (entries : List ℕ) (at : ℕ) (answer : Answer) → Event
+  ReadLow : (entries : List ℕ) (at : ℕ) (answer : Result ℕ Refusal) → Event
+  ReadHigh : (entries : List ℕ) (at : ℕ) (answer : Result ℕ Refusal) → Event
   FaultAddress : (address : ℕ) → Event
   SetTableIndex : (index : ℕ) (after : State) → Event
-  SetEntry : (entries : List ℕ) (at e : ℕ) (after : List ℕ) (answer : Answer) → Event
+  SetEntry : (entries : List ℕ) (at e : ℕ) (after : List ℕ) (answer : Result (Unit {0}) Refusal) → Event
   SetBootMode : (mode : Bool) → Event
 
 -- the call was handed this state, and kept its promise; the boot mode is the caller's to set

@@ -1,23 +1,20 @@
 -- "the fault address kept from the last fault", over every history.
-use Rattle.std.specs.Prelude.{ℕ, ◌≡◌, Bool, ◌||◌, cond, List, [], ◌∷◌}
+use Rattle.std.specs.Prelude.{ℕ, ◌≡◌, Bool, ◌||◌, cond, List, [], ◌∷◌, Result, Ok, Err}
 use Rattle.mups16.specs.Read.{FaultAddressGives}
 use Rattle.mups16.specs.Histories.{Event, KeptThroughout, last_state}
 use Rattle.mups16.specs.Histories.Event.{Map, ReadLow, ReadHigh, FaultAddress, SetTableIndex, SetEntry, SetBootMode}
 use Rattle.mups16.specs.declared.State.{State}
 use Rattle.mups16.specs.declared.Mapping.{Mapping}
-use Rattle.mups16.specs.declared.Answer.{Answer}
-use Rattle.mups16.specs.declared.Answer.TheVariants.{At, Word, Done, Refused}
+use Rattle.mups16.specs.declared.refusal.Refusal.{Refusal}
 
 -- one of the three truth values holds; told here again, so that a wrong definition elsewhere shows
 unfoldable pub any_fault : Mapping → Bool
 any_fault m = m.no_mapping || m.write_violation || m.protection_violation
 
 -- a map's virtual address where its answer has a fault, else the address of the fault before
-unfoldable pub fault_in : Answer → (virtual before : ℕ) → ℕ
-fault_in (At m) virtual before = cond (any_fault m) virtual before
-fault_in (Word value) virtual before = before
-fault_in Done virtual before = before
-fault_in (Refused number) virtual before = before
+unfoldable pub fault_in : Result Mapping Refusal → (virtual before : ℕ) → ℕ
+fault_in (Ok m) virtual before = cond (any_fault m) virtual before
+fault_in (Err refusal) virtual before = before
 
 -- told by the answers, and not by any state
 unfoldable pub fault_by : Event → (before : ℕ) → ℕ

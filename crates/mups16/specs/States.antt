@@ -4,15 +4,15 @@ use Rattle.runs.specs.Bits.{bits}
 use Rattle.mups16.specs.declared.State.{State}
 
 -- "A table index keeps its low 5 bits."
-unfoldable pub index_of : State → ℕ
+abbrev pub index_of : State → ℕ
 index_of s = bits 4 0 s.table_index
 
-unfoldable pub with_index : (index : ℕ) → State → State
+abbrev pub with_index : (index : ℕ) → State → State
 with_index index s = record { table_index = bits 4 0 index; boot_mode = s.boot_mode; fault_address = s.fault_address }
 
-unfoldable pub with_fault : (address : ℕ) → State → State
+abbrev pub with_fault : (address : ℕ) → State → State
 with_fault address s = record { table_index = s.table_index; boot_mode = s.boot_mode; fault_address = address }
 
 -- the boot mode is a line of the machine, which no operation changes
-unfoldable pub with_boot_mode : (mode : Bool) → State → State
+abbrev pub with_boot_mode : (mode : Bool) → State → State
 with_boot_mode mode s = record { table_index = s.table_index; boot_mode = mode; fault_address = s.fault_address }

@@ -1,6 +1,7 @@
 // The entries that the caller lends, their bits, and the table index by which one is found.
-ghost use Rattle.std.specs.Prelude.{true, ◌≡◌, ◌<◌, ◌^◌};
-ghost use Rattle.mups16.specs.Entries.{ENTRIES, entries_fit, entry_at, mapped, page_of, place_of, system, writable};
+ghost use Rattle.std.specs.Prelude.{◌≡◌, ◌<◌};
+ghost use Rattle.runs.specs.Bits.{flag};
+ghost use Rattle.mups16.specs.Entries.{entry_at, page_of, place_of};
 ghost use Rattle.mups16.specs.States.{index_of};
 
 use crate::State;
@@ -17,15 +18,15 @@ pub(crate) const ENTRY_VALUES: u32 = 1 << 19;
 
 pub(crate) const PHYSICAL_PAGES: u32 = 1 << 16;
 
-// The number that a call is refused with where the run of entries isn't 8,192 long. There is no other refusal.
-pub(crate) const WRONG_LENGTH: u32 = 2;
+// The bits above an entry's physical page.
+pub(crate) const MAPPED: u32 = 18;
 
-// The run is as long as the unit has entries.
-pub(crate) fn entries_fit(entries: &[u32]) -> bool
-    ensures { result ≡ entries_fit entries.now }
-{
-    entries.len() == ENTRIES as usize
-}
+pub(crate) const SYSTEM: u32 = 17;
+
+pub(crate) const WRITABLE: u32 = 16;
+
+// A run of as many entries as the unit has. A call makes it of the run that is lent, or refuses.
+pub(crate) type Entries = [u32; ENTRIES as usize];
 
 // The place among the entries that an entry address names.
 pub(crate) fn place_of(entry_address: u32) -> u32
@@ -35,39 +36,26 @@ pub(crate) fn place_of(entry_address: u32) -> u32
 }
 
 // The entry at a place. Bits 19 and up are ignored.
-pub(crate) fn entry_at(entries: &[u32], place: u32) -> u32
-    requires { (entries_fit entries.now ≡ true) × (place < ENTRIES) }
+pub(crate) fn entry_at(entries: &Entries, place: u32) -> u32
+    requires { place < ENTRIES }
     ensures { result ≡ entry_at entries.now place }
 {
     entries[place as usize] % ENTRY_VALUES
 }
 
-// Bit 18.
-pub(crate) fn is_mapped(e: u32) -> bool
-    ensures { result ≡ mapped e }
+// Whether an entry has a bit.
+pub(crate) fn has(e: u32, bit: u32) -> bool
+    requires { bit < 32 }
+    ensures { result ≡ flag bit e }
 {
-    (e >> 18) % 2 == 1
-}
-
-// Bit 17.
-pub(crate) fn is_system(e: u32) -> bool
-    ensures { result ≡ system e }
-{
-    (e >> 17) % 2 == 1
-}
-
-// Bit 16.
-pub(crate) fn is_writable(e: u32) -> bool
-    ensures { result ≡ writable e }
-{
-    (e >> 16) % 2 == 1
+    (e >> bit) % 2 == 1
 }
 
 // Bits 15 to 0, the physical page.
-pub(crate) fn page_of(e: u32) -> u32
+pub(crate) fn page_of(e: u32) -> u16
     ensures { result ≡ page_of e }
 {
-    e % PHYSICAL_PAGES
+    (e % PHYSICAL_PAGES) as u16
 }
 
 // The table index that counts.

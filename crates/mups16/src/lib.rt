@@ -4,14 +4,16 @@
 mod entries;
 mod maps;
 mod reads;
+mod refusal;
 mod sets;
 
 pub use maps::map;
 pub use reads::{fault_address, read_high, read_low};
+pub use refusal::Refusal;
 pub use sets::{set_entry, set_table_index};
 
 // What the unit keeps from call to call. Of the table index the low 5 bits count. Boot mode is a line of the machine: the caller sets it.
-#[derive(Clone, Copy)]
+#[derive(Clone, Copy, Default)]
 pub struct State {
     pub table_index: u32,
     pub boot_mode: bool,
@@ -27,19 +29,9 @@ pub struct Mapping {
     pub protection_violation: bool,
 }
 
-// What a call answers: a map an address, a read of an entry a word, a set of an entry that it is done; each of them a refusal's number
-// where the run is not as long as it must be.
-#[derive(Clone, Copy)]
-pub enum Answer {
-    At(Mapping),
-    Word(u16),
-    Done,
-    Refused(u32),
-}
-
-// A map's answer, and the state after it.
+// A map's answer, and the state after it, which a refused map leaves.
 #[derive(Clone, Copy)]
 pub struct MapReply {
-    pub answer: Answer,
+    pub answer: Result<Mapping, Refusal>,
     pub state: State,
 }

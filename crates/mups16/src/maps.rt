@@ -1,11 +1,11 @@
 // Operation 0: a virtual address of 16 bits becomes a physical one of 24 bits.
-ghost use Rattle.std.specs.Prelude.{true, cond, ◌≡◌};
-ghost use Rattle.mups16.specs.Entries.{entries_fit};
+ghost use Rattle.std.specs.Prelude.{◌+◌, ◌*◌, ◌≡◌};
+ghost use Rattle.runs.specs.Bits.{bit};
 ghost use Rattle.mups16.specs.Faults.{has_fault};
 ghost use Rattle.mups16.specs.Map.{MapGives, boot_mapping, entry_mapping, map_place, mapping_of, offset, state_after, virtual_page};
 
-use crate::entries::{entries_fit, entry_at, index_of, is_mapped, is_system, is_writable, page_of};
-use crate::{Answer, MapReply, Mapping, State, entries};
+use crate::entries::{Entries, MAPPED, SYSTEM, TABLE, WRITABLE, entry_at, has, index_of, page_of};
+use crate::{MapReply, Mapping, State};
 
 // How many bytes a page has.
 const PAGE: u32 = 256;
@@ -17,14 +17,14 @@ const BOOT: u32 = 0x80 << 16;
 fn virtual_page(virtual_address: u16) -> u32
     ensures { result ≡ virtual_page virtual_address }
 {
-    virtual_address as u32 / PAGE
+    u32::from(virtual_address) / PAGE
 }
 
 // The lower eight bits.
 fn offset(virtual_address: u16) -> u32
     ensures { result ≡ offset virtual_address }
 {
-    virtual_address as u32 % PAGE
+    u32::from(virtual_address) % PAGE
 }
 
 // A map in boot mode: no fault.
@@ -32,7 +32,7 @@ fn boot_mapping(virtual_address: u16) -> Mapping
     ensures { result ≡ boot_mapping virtual_address }
 {
     Mapping {
-        address: BOOT + virtual_address as u32,
+        address: BOOT + u32::from(virtual_address),
         no_mapping: false,
         write_violation: false,
         protection_violation: false,
@@ -44,10 +44,10 @@ fn entry_mapping(e: u32, virtual_address: u16, user: bool, write: bool) -> Mappi
     ensures { result ≡ entry_mapping e virtual_address user write }
 {
     Mapping {
-        address: page_of(e) * PAGE + offset(virtual_address),
-        no_mapping: !is_mapped(e),
-        write_violation: write & !is_writable(e),
-        protection_violation: user & is_system(e),
+        address: u32::from(page_of(e)) * PAGE + offset(virtual_address),
+        no_mapping: !has(e, MAPPED),
+        write_violation: write & !has(e, WRITABLE),
+        protection_violation: user & has(e, SYSTEM),
     }
 }
 
@@ -55,50 +55,56 @@ fn entry_mapping(e: u32, virtual_address: u16, user: bool, write: bool) -> Mappi
 fn map_place(state: State, virtual_address: u16) -> u32
     ensures { result ≡ map_place state virtual_address }
 {
-    entries::TABLE * index_of(state) + virtual_page(virtual_address)
+    TABLE * index_of(state) + virtual_page(virtual_address)
 }
 
-// What a map answers where the run fits.
+// What a map over all entries answers.
 fn mapping_of(
-    entries: &[u32],
+    entries: &Entries,
     state: State,
     virtual_address: u16,
     user: bool,
     write: bool,
 ) -> Mapping
-    requires { entries_fit entries.now ≡ true }
     ensures { result ≡ mapping_of entries.now state virtual_address user write }
 {
     if state.boot_mode {
         return boot_mapping(virtual_address);
     }
-    let place = map_place(state, virtual_address);
-    let e = entry_at(entries, place);
+    let e = entry_at(entries, map_place(state, virtual_address));
     entry_mapping(e, virtual_address, user, write)
 }
 
-// Whether a map has any fault.
-fn has_fault(m: Mapping) -> bool
-    ensures { result ≡ has_fault m }
-{
-    m.no_mapping | m.write_violation | m.protection_violation
+impl Mapping {
+    // Whether a map has any fault.
+    fn has_fault(self) -> bool
+        ensures { result ≡ has_fault self }
+    {
+        self.no_mapping | self.write_violation | self.protection_violation
+    }
+
+    // The faults as programs tell them, in one number: no mapping counts 1, a write violation 2 and a protection violation 4.
+    pub fn faults(self) -> u32
+        ensures { result ≡ bit self.no_mapping + 2 * bit self.write_violation + 4 * bit self.protection_violation }
+    {
+        u32::from(self.no_mapping)
+            + 2 * u32::from(self.write_violation)
+            + 4 * u32::from(self.protection_violation)
+    }
 }
 
-// The fault address after a map: its virtual address where it has a fault, else the one before.
-fn fault_after(fault: bool, virtual_address: u16, before: u16) -> u16
-    ensures { result ≡ cond fault virtual_address before }
-{
-    if fault { virtual_address } else { before }
-}
-
-// The state after a map.
-fn state_after(state: State, virtual_address: u16, m: Mapping) -> State
-    ensures { result ≡ state_after state virtual_address m }
-{
-    State {
-        table_index: state.table_index,
-        boot_mode: state.boot_mode,
-        fault_address: fault_after(has_fault(m), virtual_address, state.fault_address),
+impl State {
+    // The state after a map: one with a fault leaves its virtual address.
+    fn after(self, virtual_address: u16, m: Mapping) -> State
+        ensures { result ≡ state_after self virtual_address m }
+    {
+        if m.has_fault() {
+            return State {
+                fault_address: virtual_address,
+                ..self
+            };
+        }
+        self
     }
 }
 
@@ -106,16 +112,17 @@ fn state_after(state: State, virtual_address: u16, m: Mapping) -> State
 pub fn map(entries: &[u32], state: State, virtual_address: u16, user: bool, write: bool) -> MapReply
     ensures { MapGives entries.now state virtual_address user write result }
 {
-    if !entries_fit(entries) {
-        return MapReply {
-            answer: Answer::Refused(entries::WRONG_LENGTH),
+    match <&Entries>::try_from(entries) {
+        Ok(entries) => {
+            let m = mapping_of(entries, state, virtual_address, user, write);
+            MapReply {
+                answer: Ok(m),
+                state: state.after(virtual_address, m),
+            }
+        }
+        Err(error) => MapReply {
+            answer: Err(error.into()),
             state,
-        };
-    }
-    let m = mapping_of(entries, state, virtual_address, user, write);
-    let after = state_after(state, virtual_address, m);
-    MapReply {
-        answer: Answer::At(m),
-        state: after,
+        },
     }
 }

@@ -9,7 +9,6 @@ ghost use Rattle.entry.specs.Address.{PAGE, PAGES};
 
 use collector::Collected;
 use heap::{Mapped, Pool};
-use mmu::RawReply;
 use registers::{Access, Outcome, Registers, Reply};
 use std::io::{Read, Write};
 
@@ -110,7 +109,7 @@ fn run_raw(r: Registers, buffer: &[u64], count: u32) -> u64 {
     for i in 0..count as u64 {
         let a = access_of(0, i);
         let reply = mmu::raw_access(registers, buffer, a.address, a.user, a.write, a.draw);
-        let RawReply::Answered(t) = reply else {
+        let Ok(t) = reply else {
             return 0;
         };
         let physical = t.physical;
@@ -380,12 +379,12 @@ fn prepare(buffer: &mut [u64], words: &mut [u32]) -> Registers {
 fn pace(input: &mut impl Read, output: &mut impl Write, buffer: &mut [u64], words: &mut [u32]) {
     let mut bytes = [0u8; 8];
     let _ = input.read_exact(&mut bytes);
-    let scenario = wire::word_at(&bytes, 0);
-    let count = wire::word_at(&bytes, 1);
+    let scenario = wire::read::<u32>(&bytes, 0);
+    let count = wire::read::<u32>(&bytes, 1);
     let r = prepare(buffer, words);
     let sum = run(r, buffer, words, scenario, count);
     let mut answer = [0u8; 8];
-    wire::put_number(&mut answer, 0, sum);
+    wire::write(&mut answer, 0, sum);
     let _ = output.write_all(&answer);
 }
 

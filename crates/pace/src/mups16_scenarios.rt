@@ -1,5 +1,5 @@
 // Scenarios 9 and 10: calls of the MUPS/16 unit.
-use mups16::{Answer, Mapping, State};
+use mups16::{Mapping, Refusal, State};
 
 // How many entries there are, how many tables they make, and how many values an entry has.
 const ENTRIES: u32 = 1 << 13;
@@ -18,29 +18,26 @@ const STRIDE: u64 = 257;
 // By how much the entries that are prepared go up, from one entry address to the next.
 const ENTRY_STEP: u32 = 64;
 
-// Each fault of a map has a bit of its own.
-fn faults_of(m: Mapping) -> u64 {
-    m.no_mapping as u64 | (m.write_violation as u64) << 1 | (m.protection_violation as u64) << 2
+// What an answer adds to the sum: its worth, or a million for each of a refusal's number.
+fn added(sum: u64, answer: Result<u64, Refusal>) -> u64 {
+    sum.wrapping_add(match answer {
+        Ok(worth) => worth,
+        Err(refusal) => 1000000 * u64::from(u32::from(refusal)),
+    })
 }
 
-// What an answer adds to the sum.
-fn worth(answer: Answer) -> u64 {
-    match answer {
-        Answer::At(m) => (m.address as u64).wrapping_add(faults_of(m)),
-        Answer::Word(value) => value as u64 + 1,
-        Answer::Done => 1,
-        Answer::Refused(number) => 1000000 * number as u64,
-    }
+fn mapping_worth(m: Mapping) -> u64 {
+    u64::from(m.address) + u64::from(m.faults())
 }
 
-fn added(sum: u64, answer: Answer) -> u64 {
-    sum.wrapping_add(worth(answer))
+fn word_worth(word: u16) -> u64 {
+    u64::from(word) + 1
 }
 
 // Prepares the entries.
 fn set_entries(entries: &mut [u32]) {
     for place in 0..ENTRIES {
-        mups16::set_entry(entries, place, ENTRY_STEP * place);
+        let _ = mups16::set_entry(entries, place, ENTRY_STEP * place);
     }
 }
 
@@ -48,12 +45,11 @@ fn set_entries(entries: &mut [u32]) {
 fn run_tables(entries: &[u32], begun: State, count: u32) -> u64 {
     let mut state = begun;
     let mut sum: u64 = 0;
-    for i in 0..count as u64 {
+    for i in 0..u64::from(count) {
         let named = mups16::set_table_index(state, (i % TABLES) as u32);
         let address = (STRIDE * (i % VIRTUAL_PAGES)) as u16;
         let reply = mups16::map(entries, named, address, true, i % 2 == 1);
-        let answer = reply.answer;
-        sum = added(sum, answer);
+        sum = added(sum, reply.answer.map(mapping_worth));
         state = reply.state;
     }
     sum
@@ -63,17 +59,17 @@ fn run_tables(entries: &[u32], begun: State, count: u32) -> u64 {
 fn read_both(sum: u64, entries: &[u32], state: State, entry_address: u32) -> u64 {
     let low = mups16::read_low(entries, entry_address);
     let high = mups16::read_high(entries, state, entry_address);
-    added(added(sum, low), high)
+    added(added(sum, low.map(word_worth)), high.map(word_worth))
 }
 
 // Scenario 10: one entry after the other is set, and another one read.
 fn run_entries(entries: &mut [u32], state: State, count: u32) -> u64 {
     let mut sum: u64 = 0;
-    for i in 0..count as u64 {
+    for i in 0..u64::from(count) {
         let place = (i % WIDE_ENTRIES) as u32;
         let set = mups16::set_entry(entries, place, (i % ENTRY_VALUES) as u32);
         let other = ((7 * i) % WIDE_ENTRIES) as u32;
-        sum = read_both(added(sum, set), entries, state, other);
+        sum = read_both(added(sum, set.map(|()| 1)), entries, state, other);
     }
     sum
 }
@@ -81,11 +77,7 @@ fn run_entries(entries: &mut [u32], state: State, count: u32) -> u64 {
 // Makes the calls of a scenario, 9 or 10, over entries that are all 0.
 fn run_over(entries: &mut [u32], scenario: u32, count: u32) -> u64 {
     set_entries(entries);
-    let state = State {
-        table_index: 0,
-        boot_mode: false,
-        fault_address: 0,
-    };
+    let state = State::default();
     if scenario == 9 {
         return run_tables(entries, state, count);
     }

@@ -1,18 +1,19 @@
 -- The ways of the code through a walk, from what its tests and calls gave. Assumes nothing.
-use Prim.Native.Nat.{ℕ, zero, suc, ◌+◌, ◌-◌, ◌*◌, ◌/◌, ◌^◌, ◌≤◌, ◌<◌}
+use Prim.Native.Nat.{ℕ, zero, suc, ◌+◌, ◌-◌, ◌*◌, ◌≤◌, ◌<◌}
 use mathlib.Core.Path.{◌≡◌, refl, sym, ap, ◌∙◌}
-use mathlib.Core.Bool.{Bool, true, false, not}
+use mathlib.Core.Bool.{Bool, true, false}
 use mathlib.Core.List.{List}
 use lib.ListN.{length, get_or}
 use native.Mathlib.Numerals.{sub-one}
 use native.Mathlib.Omega.{arith}
-use borrow.Author.Tests.{not-true, not-false}
+use borrow.Author.Tests.{not-true}
 use Rattle.runs.proofs.Bools.{both}
 use Rattle.page_table.specs.Words.{present, number}
 use Rattle.page_table.specs.Stretches.{stretch_size, index_in, stretch}
 use Rattle.page_table.specs.Walk.{stop_at, index_below, walk_tree, global_first, walk_page}
 use Rattle.page_table.specs.Reads.{leads_on}
-use Rattle.page_table.specs.Ends.{end_of, end_at, end_read, decided}
+use Rattle.page_table.specs.Ends.{end_at, end_read, decided}
+use Rattle.page_table.specs.declared.End.{End}
 use Rattle.page_table.specs.declared.Stop.{Stop}
 use Rattle.page_table.specs.declared.Walk.{Walk}
 use Rattle.page_table.specs.declared.Walk.TheVariants.{Leaf, Absent, Broken}
@@ -50,6 +51,14 @@ pub lent-inside : (length levels w size n : ℕ) → leads_on length levels w �
     → size * n + size ≤ length
 lent-inside length levels w size n on sized numbered = rw (sized, numbered) (leads-inside length levels w on)
 
+-- the test by a run's count is that of its words, and the stretch that was lent by its size and number
+pub in-run : (words : List ℕ) (levels w n : ℕ) (b : Bool) → n ≡ length words → b ≡ leads_on n levels w → b ≡ leads_on (length words) levels w
+in-run words levels w n b counted judged = judged ∙ ap (λ (k : ℕ). leads_on k levels w) counted
+
+pub lent : (words part : List ℕ) (levels w : ℕ) (size : ℕ) {n : ℕ} → size ≡ stretch_size levels → n ≡ number w → part ≡ stretch words size n
+    → part ≡ stretch words (stretch_size levels) (number w)
+lent words part levels w size sized numbered given = given ∙ rw (sized, numbered) refl
+
 -- the next word, in the stretch that was lent
 module _ (words : List ℕ) (vpn levels word : ℕ) (page : vpn < 524288) (on : leads_on (length words) levels word ≡ true)
     (part : List ℕ) (lent : part ≡ stretch words (stretch_size levels) (number word)) (i : ℕ) (placed : i ≡ index_in levels vpn) where
@@ -58,62 +67,55 @@ module _ (words : List ℕ) (vpn levels word : ℕ) (page : vpn < 524288) (on : 
       rw (lent, stretch-length words (stretch_size levels) (number word) (leads-inside (length words) levels word on), placed)
       (index-lt levels vpn page)
 
-  pub next-stands : (index : ℕ) → index ≡ index_below vpn levels word → get_or part i 0 ≡ get_or words index 0
+  pub next-stands : (next index : ℕ) → next ≡ get_or part i 0 → index ≡ index_below vpn levels word → next ≡ get_or words index 0
   unfolding index_below
-  next-stands index e =
-      rw (lent, e, placed) (stretch-at words (stretch_size levels) (number word) (index_in levels vpn) (index-lt levels vpn page))
-
--- a walk that ends at a word ends with that word
-read_here : (words : List ℕ) (vpn levels word at : ℕ) → levels ≤ 2 → word ≡ get_or words at 0 → 4 * at + levels ≡ end_of words vpn levels at
-    → end_at levels word at ≡ end_read words vpn levels at
-unfolding end_at end_read
-read_here words vpn levels word at l stands ends =
-    let i : (4 * at + levels) / 4 ≡ at = omega arith in
-    rw (← ends, i, ← stands) (omega arith)
+  next-stands next index read e =
+      read
+      ∙ rw (lent, e, placed)
+      (stretch-at words (stretch_size levels) (number word) (index_in levels vpn) (index-lt levels vpn page))
 
 -- the three ways at a word: no level below, no way on, on to the next word
-module _ (words : List ℕ) (vpn levels word at : ℕ) (l : levels ≤ 2) (stands : word ≡ get_or words at 0) (r : ℕ) where
-  pub end-leaf : levels ≡ 0 → r ≡ end_at levels word at → r ≡ end_read words vpn levels at
-  unfolding end_of
-  end-leaf e given = given ∙ read_here words vpn levels word at l stands (rw e (omega arith))
+module _ (words : List ℕ) (vpn levels word at : ℕ) (stands : word ≡ get_or words at 0) where
+  pub end-leaf : levels ≡ 0 → end_at levels word at ≡ end_read words vpn levels at
+  unfolding end_read
+  end-leaf e = rw (stands, e) refl
 
   module _ (more : levels ≡ 0 → ⊥) (b : Bool) (judged : b ≡ leads_on (length words) (levels - 1) word) where
-    pub end-stuck : not b ≡ true → r ≡ end_at levels word at → r ≡ end_read words vpn levels at
-    unfolding end_of
-    end-stuck h given = given ∙ read_here words vpn levels word at l stands (go levels more (sym judged ∙ not-true b h))
+    pub end-stuck : b ≡ false → end_at levels word at ≡ end_read words vpn levels at
+    unfolding end_read
+    end-stuck h = go levels more (sym judged ∙ h)
       where
-        go : (n : ℕ) → (n ≡ 0 → ⊥) → leads_on (length words) (n - 1) word ≡ false → 4 * at + n ≡ end_of words vpn n at
+        go : (n : ℕ) → (n ≡ 0 → ⊥) → leads_on (length words) (n - 1) word ≡ false → end_at n word at ≡ end_read words vpn n at
         go zero ne off = absurd (ne refl)
         go (suc n) ne off = sym (rw (← stands, rw (sub-one (suc n)) at off))
 
-    pub end_on : not b ≡ false → (next : ℕ) → next ≡ index_below vpn (levels - 1) word → r ≡ end_read words vpn (levels - 1) next
+    pub end_on : b ≡ true → (next : ℕ) → next ≡ index_below vpn (levels - 1) word → (r : End) → r ≡ end_read words vpn (levels - 1) next
         → r ≡ end_read words vpn levels at
-    unfolding end_of end_read
-    end_on h next e given =
-        given ∙ ap (λ (end : ℕ). 2 ^ 32 * get_or words (end / 4) 0 + end) (go levels more (sym judged ∙ not-false b h) e)
+    unfolding end_read
+    end_on h next e r given = given ∙ go levels more (sym judged ∙ h) e
       where
         go : (n : ℕ) → (n ≡ 0 → ⊥) → leads_on (length words) (n - 1) word ≡ true → next ≡ index_below vpn (n - 1) word
-            → end_of words vpn (n - 1) next ≡ end_of words vpn n at
+            → end_read words vpn (n - 1) next ≡ end_read words vpn n at
         go zero ne on e = absurd (ne refl)
         go (suc n) ne on e = rw e (rw (sub-one (suc n)) (sym (rw (← stands, rw (sub-one (suc n)) at on))))
 
 -- what a word says at which a walk ends
 module _ (global : Bool) (levels word at : ℕ) (b : Bool) (seen : b ≡ present word) where
-  pub says-absent : not b ≡ true → Absent (stop_at global levels) ≡ decided global levels word at
+  pub says-absent : b ≡ false → Absent (stop_at global levels) ≡ decided global levels word at
   unfolding decided
-  says-absent h = go levels (sym seen ∙ not-true b h)
+  says-absent h = go levels (sym seen ∙ h)
     where
       go : (l : ℕ) → present word ≡ false → Absent (stop_at global l) ≡ decided global l word at
       go zero off = sym (rw off)
       go (suc n) off = sym (rw off)
 
-  pub says-leaf : not b ≡ false → levels ≡ 0 → Leaf (record { global = global; word = word; index = at }) ≡ decided global levels word at
+  pub says-leaf : b ≡ true → levels ≡ 0 → Leaf (record { global = global; word = word; index = at }) ≡ decided global levels word at
   unfolding decided
-  says-leaf h e = sym (rw (e, sym seen ∙ not-false b h))
+  says-leaf h e = sym (rw (e, sym seen ∙ h))
 
-  pub says-broken : not b ≡ false → (levels ≡ 0 → ⊥) → Broken (stop_at global levels) ≡ decided global levels word at
+  pub says-broken : b ≡ true → (levels ≡ 0 → ⊥) → Broken (stop_at global levels) ≡ decided global levels word at
   unfolding decided
-  says-broken h more = go levels more (sym seen ∙ not-false b h)
+  says-broken h more = go levels more (sym seen ∙ h)
     where
       go : (l : ℕ) → (l ≡ 0 → ⊥) → present word ≡ true → Broken (stop_at global l) ≡ decided global l word at
       go zero ne on = absurd (ne refl)

@@ -1,14 +1,13 @@
 // The walk of the page tables, a lent run of table words (course format).
 #![tactic(auto)]
 
-ghost use Rattle.std.specs.Prelude.{true, ◌≡◌, ◌%◌, ◌≤◌, ◌<◌, length, get_or};
+ghost use Rattle.std.specs.Prelude.{true, ◌≡◌, ℕ, ◌+◌, ◌*◌, ◌%◌, ◌≤◌, ◌<◌, List, length, get_or};
 ghost use Rattle.entry.specs.Address.{PAGES};
 ghost use Rattle.page_table.specs.Words.{present, number};
-ghost use Rattle.page_table.specs.Stretches as stretches;
-ghost use Rattle.page_table.specs.Stretches.{LONGEST, ROOTS, TABLE, stretch_size, index_in, broken, tables_fit};
+ghost use Rattle.page_table.specs.Stretches.{LONGEST, ROOTS, TABLE, stretch, stretch_size, index_in, broken, tables_fit};
 ghost use Rattle.page_table.specs.Walk.{index_below, walk_tree, walk_page};
 ghost use Rattle.page_table.specs.Reads.{leads_on};
-ghost use Rattle.page_table.specs.Ends.{end_at, end_read, decided, ending};
+ghost use Rattle.page_table.specs.Ends.{end_read, ending};
 ghost use Rattle.page_table.specs.Faults.{fault_kind, stop_place, walk_fault};
 
 // How many words a table has, a directory, and the longest run.
@@ -29,6 +28,14 @@ pub struct Found {
     pub index: u32,
 }
 
+// Where a walk ends: the levels below, the word that decides, and its index in the run.
+#[derive(Clone, Copy)]
+pub struct End {
+    pub levels: u32,
+    pub word: u32,
+    pub index: u32,
+}
+
 // Where a walk stopped: whether in the global tree, and the level of the word that decided: root 1, directory 2, leaf 3.
 #[derive(Clone, Copy)]
 pub struct Stop {
@@ -43,6 +50,43 @@ pub enum Walk {
     Broken(Stop),
 }
 
+// A lent run of table words, as words or as bytes. A walk reads the tables by this trait alone.
+pub trait TableRun: Copy {
+    // The words of the run.
+    ghost words: { Self → List ℕ };
+
+    // How many words the run has.
+    fn count(self) -> usize
+        ensures { result ≡ length (words self) };
+
+    // The word of an index.
+    fn word_at(self, index: usize) -> u32
+        requires { index < length (words self) }
+        ensures { result ≡ get_or (words self) index 0 };
+
+    // The directory or table with a number: that very stretch of the lent run.
+    fn stretch(self, size: usize, number: usize) -> Self
+        requires { size * number + size ≤ length (words self) }
+        ensures { words result ≡ stretch (words self) size number };
+}
+
+impl<'a> TableRun for &'a [u32] {
+    ghost words = { λ run. run.now };
+
+    fn count(self) -> usize {
+        self.len()
+    }
+
+    fn word_at(self, index: usize) -> u32 {
+        self[index]
+    }
+
+    fn stretch(self, size: usize, number: usize) -> &'a [u32] {
+        let from = size * number;
+        &self[from..from + size]
+    }
+}
+
 // The run has 1,024 to 67,108,864 words, in multiples of 1,024.
 pub fn tables_fit(words: &[u32]) -> bool
     ensures { result ≡ tables_fit words.now }
@@ -51,7 +95,7 @@ pub fn tables_fit(words: &[u32]) -> bool
     (TABLE <= n) & (n <= LONGEST) & (n % TABLE == 0)
 }
 
-// How many words a stretch has, by the levels left below it: a table none, a directory one.
+// How many words a stretch has, by the levels left below it: a table none, a directory one. No enum says which: the walk counts levels.
 pub fn stretch_size(levels: u32) -> usize
     ensures { result ≡ stretch_size levels }
 {
@@ -72,7 +116,7 @@ pub fn index_in(levels: u32, vpn: u32) -> usize
     }
 }
 
-// Whether a word is present.
+// Whether a word is present. A bit is read as its definition has it, by shift and remainder, as everywhere here: a mask is no plainer.
 pub fn is_present(word: u32) -> bool
     ensures { result ≡ present word }
 {
@@ -109,17 +153,6 @@ pub fn leads_on(length: usize, levels: u32, word: u32) -> bool
     is_present(word) & !is_broken(length, size, word)
 }
 
-// The directory or table that a word leads on to: that very stretch of the lent words.
-fn stretch<'a>(words: &'a [u32], levels: u32, word: u32) -> &'a [u32]
-    requires { leads_on (length words.now) levels word ≡ true }
-    ensures { result.now ≡ stretches.stretch words.now (stretch_size levels) (number word) }
-{
-    let size = stretch_size(levels);
-    let from = size * number_of(word);
-    let to = from + size;
-    &words[from..to]
-}
-
 // The index in the run of a page's word in the stretch that a word names.
 pub fn index_below(vpn: u32, levels: u32, word: u32) -> u32
     requires { vpn < PAGES }
@@ -129,75 +162,64 @@ pub fn index_below(vpn: u32, levels: u32, word: u32) -> u32
     (size * number_of(word) + index_in(levels, vpn)) as u32
 }
 
-// What the lowest bit of the word counts in a walk's end.
-const END_WORD: u64 = 1 << 32;
-
-// A walk's end in one number: the word that decides, above 32 bits that are four times the word's index and the levels below it.
-pub fn end_at(levels: u32, word: u32, index: u32) -> u64
-    requires { (levels ≤ 2) × (index < LONGEST) }
-    ensures { result ≡ end_at levels word index }
+// Goes on with a walk from the word at which it stands, as far as words lead on: there it ends, with the word that it read. Run and end
+// are lent, and each level hands them on as they are: that lets the compiler make a loop of the calls.
+fn descend<T: TableRun>(tables: &T, vpn: u32, end: &mut End)
+    requires { (vpn < PAGES) × (end.old.levels ≤ 2) × (end.old.index < LONGEST) × (end.old.word ≡ get_or (T.words tables.now) end.old.index 0) }
+    ensures { end.new ≡ end_read (T.words tables.now) vpn end.old.levels end.old.index }
 {
-    word as u64 * END_WORD + 4 * index as u64 + levels as u64
-}
-
-// The walk from a word, which stands at an index of the run and has so many levels below it: where it ends, and the word that it read
-// there. The run is lent behind a reference, which each level hands on as it is: that and a number as the answer let the compiler make
-// a loop of the calls.
-fn descend(words: &&[u32], vpn: u32, levels: u32, word: u32, index: u32) -> u64
-    requires { (vpn < PAGES) × (levels ≤ 2) × (index < LONGEST) × (word ≡ get_or words.now.now index 0) }
-    ensures { result ≡ end_read words.now.now vpn levels index }
-{
+    let levels = end.levels;
     if levels == 0 {
-        return end_at(levels, word, index);
+        return;
     }
-    let run = *words;
+    let run = *tables;
+    let word = end.word;
     let below = levels - 1;
-    if !leads_on(run.len(), below, word) {
-        return end_at(levels, word, index);
+    if !leads_on(run.count(), below, word) {
+        return;
     }
-    let part = stretch(run, below, word);
-    let at = index_in(below, vpn);
-    let next = part[at];
-    descend(words, vpn, below, next, index_below(vpn, below, word))
+    let part = run.stretch(stretch_size(below), number_of(word));
+    let next = part.word_at(index_in(below, vpn));
+    *end = End {
+        levels: below,
+        word: next,
+        index: index_below(vpn, below, word),
+    };
+    descend(tables, vpn, end)
 }
 
-// What a word says to a walk that ends at it: at an index of the run, with so many levels below it.
-pub fn decided(global: bool, levels: u32, word: u32, index: u32) -> Walk
-    requires { levels ≤ 2 }
-    ensures { result ≡ decided global levels word index }
+// The answer of a walk, by its end: what the word says that the walk read there.
+pub fn ended(global: bool, end: End) -> Walk
+    requires { end.levels ≤ 2 }
+    ensures { result ≡ ending global end }
 {
-    let level = 3 - levels;
+    let level = 3 - end.levels;
+    let word = end.word;
     if !is_present(word) {
         return Walk::Absent(Stop { global, level });
     }
-    if levels == 0 {
+    if end.levels == 0 {
         return Walk::Leaf(Found {
             global,
             word,
-            index,
+            index: end.index,
         });
     }
     Walk::Broken(Stop { global, level })
 }
 
-// The answer of a walk, by its end: what the word says that the walk read there.
-pub fn ended(global: bool, end: u64) -> Walk
-    requires { end % 4 ≤ 2 }
-    ensures { result ≡ ending global end }
-{
-    let levels = (end % 4) as u32;
-    let word = (end >> 32) as u32;
-    let index = (end % END_WORD / 4) as u32;
-    decided(global, levels, word, index)
-}
-
 // The walk of one tree, from its root.
-fn walk_tree(words: &[u32], vpn: u32, global: bool, root: u32) -> Walk
-    requires { (vpn < PAGES) × (root ≤ 63) × (ROOTS ≤ length words.now) }
-    ensures { result ≡ walk_tree words.now vpn global root }
+pub fn walk_tree<T: TableRun>(tables: T, vpn: u32, global: bool, root: u32) -> Walk
+    requires { (vpn < PAGES) × (root ≤ 63) × (ROOTS ≤ length (T.words tables)) }
+    ensures { result ≡ walk_tree (T.words tables) vpn global root }
 {
-    let word = words[root as usize];
-    let end = descend(&words, vpn, 2, word, root);
+    let word = tables.word_at(root as usize);
+    let mut end = End {
+        levels: 2,
+        word,
+        index: root,
+    };
+    descend(&tables, vpn, &mut end);
     ended(global, end)
 }
 
@@ -205,15 +227,15 @@ fn walk_tree(words: &[u32], vpn: u32, global: bool, root: u32) -> Walk
 pub const GLOBAL_ROOT: u32 = 63;
 
 // The walk of a page under an identification: the global tree first, and the own tree where that has nothing.
-pub fn walk_page(words: &[u32], id: u32, vpn: u32) -> Walk
-    requires { (id ≤ 63) × (vpn < PAGES) × (ROOTS ≤ length words.now) }
-    ensures { result ≡ walk_page words.now id vpn }
+pub fn walk_page<T: TableRun>(tables: T, id: u32, vpn: u32) -> Walk
+    requires { (id ≤ 63) × (vpn < PAGES) × (ROOTS ≤ length (T.words tables)) }
+    ensures { result ≡ walk_page (T.words tables) id vpn }
 {
-    let first = walk_tree(words, vpn, true, GLOBAL_ROOT);
+    let first = walk_tree(tables, vpn, true, GLOBAL_ROOT);
     let Walk::Absent(_) = first else {
         return first;
     };
-    walk_tree(words, vpn, false, id)
+    walk_tree(tables, vpn, false, id)
 }
 
 // The kinds of a fault after a walk: it found a leaf, it was absent, or it was broken.

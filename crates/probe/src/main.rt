@@ -7,9 +7,10 @@ mod mups16_calls;
 ghost use Rattle.std.specs.Prelude.{◌≡◌, ◌*◌, ◌≤◌, length};
 ghost use Rattle.probe.specs.Lengths.{SLOTS, WORDS};
 
+use access::Translation;
 use collector::Collected;
 use heap::{Mapped, Pool, PoolReply};
-use mmu::RawReply;
+use mmu::Refused;
 use mups16::State;
 use page_table::Walk;
 use registers::{Outcome, Registers, Reply};
@@ -154,10 +155,10 @@ fn bit(flag: bool) -> u32
     if flag { 1 } else { 0 }
 }
 
-fn raw_answer(reply: RawReply) -> Answer {
+fn raw_answer(reply: Result<Translation, Refused>) -> Answer {
     match reply {
-        RawReply::Refused(number, registers) => answered(2, number, 0, 0, registers),
-        RawReply::Answered(t) => {
+        Err(refused) => answered(2, refused.number, 0, 0, refused.registers),
+        Ok(t) => {
             let flags = bit(t.interrupt) + 2 * bit(t.exception);
             let physical = t.physical;
             let registers = t.registers;
@@ -274,7 +275,7 @@ fn read_numbers(input: &mut impl Read, bytes: &mut [u8], numbers: &mut [u64]) ->
     if input.read_exact(bytes).is_err() {
         return false;
     }
-    wire::decode64(bytes, numbers);
+    wire::decode(bytes, numbers);
     true
 }
 
@@ -284,7 +285,7 @@ fn read_words(input: &mut impl Read, bytes: &mut [u8], words: &mut [u32]) -> boo
     if input.read_exact(bytes).is_err() {
         return false;
     }
-    wire::decode32(bytes, words);
+    wire::decode(bytes, words);
     true
 }
 
@@ -295,19 +296,19 @@ fn put(output: &mut impl Write, bytes: &[u8]) {
 
 fn write_answer(output: &mut impl Write, a: Answer) {
     let mut head = [0u8; 16];
-    wire::encode32(&[a.first, a.second, a.third, a.fourth], &mut head);
+    wire::encode(&[a.first, a.second, a.third, a.fourth], &mut head);
     put(output, &head);
     let r = a.registers;
     let words = registers::to_words(r);
     let mut fields = [0u8; REGISTER_BYTES];
-    wire::encode32(&words, &mut fields);
+    wire::encode(&words, &mut fields);
     put(output, &fields);
 }
 
 fn write_numbers(output: &mut impl Write, numbers: &[u64], bytes: &mut [u8])
     requires { length bytes.old ≡ 8 * length numbers.now }
 {
-    wire::encode64(numbers, bytes);
+    wire::encode(numbers, bytes);
     put(output, bytes);
 }
 
@@ -315,13 +316,13 @@ fn put_bits(bits: &[u64; 64], bytes: &mut [u8])
     requires { length bytes.old ≡ 512 }
 {
     for k in 0..64usize {
-        wire::put_number(bytes, k, bits[k]);
+        wire::write(bytes, k, bits[k]);
     }
 }
 
 fn write_pool(output: &mut impl Write, pool: Pool) {
     let mut head = [0u8; 8];
-    wire::encode32(&[pool.first, pool.size], &mut head);
+    wire::encode(&[pool.first, pool.size], &mut head);
     put(output, &head);
     let mut bytes = [0u8; POOL_BYTES];
     put_bits(&pool.bits, &mut bytes);
@@ -336,7 +337,7 @@ fn write_tables(output: &mut impl Write, kind: u32, tables: &[u32], bytes: &mut 
         return;
     }
     let end = 4 * tables.len();
-    wire::encode32(tables, &mut bytes[..end]);
+    wire::encode(tables, &mut bytes[..end]);
     put(output, &bytes[..end]);
 }
 
@@ -363,9 +364,13 @@ fn read_request(input: &mut impl Read) -> Request {
     let mut field_bytes = [0u8; REGISTER_BYTES];
     let mut fields = [0u32; 11];
     let got = head & read_words(input, &mut field_bytes, &mut fields);
-    let s = mups16_calls::read_state(input, words[0]);
-    let state = s.state;
-    requested(got & s.got, words, fields, state)
+    let state = mups16_calls::read_state(input, words[0]);
+    requested(
+        got & state.is_some(),
+        words,
+        fields,
+        state.unwrap_or_default(),
+    )
 }
 
 // Reads a pool where the kind has one.

@@ -1,3 +1,4 @@
+pub mod Searches
 pub mod LeafLaws
 pub mod LinkLaws
 pub mod RootLaws

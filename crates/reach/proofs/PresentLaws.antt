@@ -1,5 +1,5 @@
 -- The counts of present words after a store, and the count of leaf words by the index. Assumes nothing.
-use Prim.Native.Nat.{ℕ, ◌+◌, ◌-◌, ◌*◌, ◌/◌, ◌%◌, ◌≤◌, ◌<◌}
+use Prim.Native.Nat.{ℕ, ◌+◌, ◌-◌, ◌*◌, ◌/◌, ◌%◌, ◌≤◌, ◌<◌, min}
 use mathlib.Core.Path.{◌≡◌, refl, sym, ap, subst, ◌∙◌}
 use mathlib.Core.Bool.{Bool, true, false, ◌&&◌}
 use mathlib.Core.List.{List}
@@ -116,14 +116,14 @@ unfolding count
 counted_none words = record { some = omega arith; same = refl }
 
 module _ (words links presents : List ℕ) (fits : tables_fit words ≡ true) (index : Indexes words links presents) where
-  pub index-inside : (t : ℕ) → t < table_count words → (t < length links) × (t < length presents)
+  index-long : (length links ≡ table_count words) × (length presents ≡ table_count words)
   unfolding links_of
-  index-inside t l = (
-    rw (index.links-are, links-length (λ j. directory_reached words (j / 512)) words) l,
-    rw (index.presents-are, presents-length words) l,
+  index-long = (
+    rw (index.links-are, links-length (λ j. directory_reached words (j / 512)) words),
+    rw (index.presents-are, presents-length words),
   )
 
-  pub presents-le : (t : ℕ) → t < table_count words → get_or presents t 0 ≤ 1024
+  presents-le : (t : ℕ) → t < table_count words → get_or presents t 0 ≤ 1024
   presents-le t l = rw (index.presents-are, presents-at words t l) (count-le (λ k. present (get_or words (1024 * t + k) 0)) 1024)
 
   in_table : (t k : ℕ) → k < 1024 → is_leaf_word words (1024 * t + k) ≡ present (get_or words (1024 * t + k) 0) && table_reached words t
@@ -143,7 +143,7 @@ module _ (words links presents : List ℕ) (fits : tables_fit words ≡ true) (i
   link-count t l = rw index.links-are (links-at (λ j. directory_reached words (j / 512)) words t l)
 
   -- a table with links is reached
-  pub counted-more : (leaves t : ℕ) → Counted words leaves t → t < table_count words → (get_or links t 0 ≡ 0 → ⊥)
+  counted-more : (leaves t : ℕ) → Counted words leaves t → t < table_count words → (get_or links t 0 ≡ 0 → ⊥)
       → Counted words (leaves + get_or presents t 0) (t + 1)
   unfolding table_reached
   counted-more leaves t c l linked =
@@ -162,7 +162,7 @@ module _ (words links presents : List ℕ) (fits : tables_fit words ≡ true) (i
       pos-count n = let ne : (get_or links t 0 ≡ 0) → ⊥ = linked in omega arith
 
   -- and one without is not
-  pub counted_skip : (leaves t : ℕ) → Counted words leaves t → t < table_count words → get_or links t 0 ≡ 0 → Counted words leaves (t + 1)
+  counted_skip : (leaves t : ℕ) → Counted words leaves t → t < table_count words → get_or links t 0 ≡ 0 → Counted words leaves (t + 1)
   unfolding table_reached
   counted_skip leaves t c l none =
       let n = link-count t l in
@@ -177,7 +177,7 @@ module _ (words links presents : List ℕ) (fits : tables_fit words ≡ true) (i
       (1024 * t + k) 0))) in
       record { some = omega arith; same = (let m = more t in let s = c.same in omega arith) }
 
-  pub counted-le : (leaves t : ℕ) → Counted words leaves t → leaves ≤ 67108864
+  counted-le : (leaves t : ℕ) → Counted words leaves t → leaves ≤ 67108864
   counted-le leaves t c =
       let s = c.same in
       let k = count-le (is_leaf_word words) (1024 * t) in
@@ -185,11 +185,37 @@ module _ (words links presents : List ℕ) (fits : tables_fit words ≡ true) (i
       let b = (fit-bounds words fits).1 in
       omega (arith, c.some)
 
-  pub counted-all : (leaves t : ℕ) → Counted words leaves t → table_count words ≤ t → leaves ≡ leaf_count words
+  counted-all : (leaves t : ℕ) → Counted words leaves t → table_count words ≤ t → leaves ≡ leaf_count words
   unfolding leaf_count
   counted-all leaves t c l =
       let e : 1024 * t ≡ length words = (let w = fit-whole words fits in omega (arith, c.some)) in
       c.same ∙ ap (count (is_leaf_word words)) e
+
+  -- a turn of the code's loop, which takes the links and the count of one table
+  pub turn_fits : (leaves t present : ℕ) → Counted words leaves t → t < length presents → present ≡ get_or presents t 0
+      → leaves + present < 4294967296
+  turn_fits leaves t present c inside here =
+      let l : t < table_count words = omega (arith, index-long.1) in
+      let small = counted-le leaves t c in
+      let few = presents-le t l in
+      omega arith
+
+  pub turn_more : (leaves t present : ℕ) → Counted words leaves t → t < length links → present ≡ get_or presents t 0
+      → (link : ℕ) → link ≡ get_or links t 0 → (link ≡ 0 → ⊥) → Counted words (leaves + present) (t + 1)
+  turn_more leaves t present c inside here link e ne =
+      let l : t < table_count words = omega (arith, index-long.0) in
+      rw here (counted-more leaves t c l (λ z. ne (e ∙ z)))
+
+  pub turn-skip : (leaves t : ℕ) → Counted words leaves t → t < length links → (link : ℕ) → link ≡ get_or links t 0 → link ≡ 0
+      → Counted words leaves (t + 1)
+  turn-skip leaves t c inside link e z =
+      let l : t < table_count words = omega (arith, index-long.0) in
+      counted_skip leaves t c l (sym e ∙ z)
+
+  pub turn-end : (leaves t : ℕ) → Counted words leaves t → t ≡ min (length links) (length presents) → leaves ≡ leaf_count words
+  turn-end leaves t c e =
+      let l : table_count words ≤ t = omega (arith, index-long.0, index-long.1) in
+      counted-all leaves t c l
 
 -- a run with another word at an index, as a store finds it
 pub set-others : (words : List ℕ) (i v r : ℕ) → (r ≡ i → ⊥) → get_or (set words i v) r 0 ≡ get_or words r 0

@@ -140,12 +140,6 @@ module _ (words : List ℕ) (root w : ℕ) where
 unfoldable pub beside_at : (words : List ℕ) (root d r : ℕ) → Bool
 beside_at words root d r = not (eqb r root) && leads_to (length words) 1 (get_or words r 0) d
 
--- the test of one root, in the code's words
-pub beside_at_lem : (words : List ℕ) (root d r w : ℕ) (on : Bool) (n : ℕ) → w ≡ get_or words r 0 → on ≡ leads_on (length words) 1 w → n ≡ number w
-    → not (eqb r root) && (on && eqb n d) ≡ beside_at words root d r
-unfolding leads_to beside_at
-beside_at_lem words root d r w on n here leads numbered = rw (leads, numbered, here)
-
 pub beside-any : (words : List ℕ) (root d : ℕ) → any (beside_at words root d) 64 ≡ reached_beside words root d
 unfolding reached_beside beside_at
 beside-any words root d = refl

@@ -4,8 +4,9 @@
 
 mod links;
 
-ghost use Rattle.std.specs.Prelude.{true, ◌≡◌, ◌<◌, length, set};
-ghost use Rattle.page_table.specs.Stretches.{tables_fit};
+ghost use Rattle.std.specs.Prelude.{true, ◌≡◌, ◌+◌, ◌*◌, ◌≤◌, ◌<◌, length, set};
+ghost use Rattle.page_table.specs.Stretches.{stretch, tables_fit};
+ghost use Rattle.reach.specs.Reach.{leads_to};
 ghost use Rattle.reach.specs.Index.{Indexes, links_of, presents_of};
 ghost use Rattle.reach.specs.Leaves.{leaf_count};
 
@@ -15,21 +16,33 @@ const TABLE: u32 = page_table::TABLE as u32;
 const DIRECTORY: u32 = page_table::DIRECTORY as u32;
 
 // How many roots there are; and as a root's number, one that is none.
-const ROOTS: u32 = 64;
+pub const ROOTS: u32 = 64;
 
-// How many leaf words the tables have, by their index.
+// The words of a directory.
+pub fn directory(words: &[u32], number: usize) -> &[u32]
+    requires { 512 * number + 512 ≤ length words.now }
+    ensures { result.now ≡ stretch words.now 512 number }
+{
+    let from = page_table::DIRECTORY * number;
+    &words[from..from + page_table::DIRECTORY]
+}
+
+// Whether a word leads on to the stretch of a number, which has so many levels below it, in a run of a length.
+pub fn leads_to(length: usize, levels: u32, word: u32, number: usize) -> bool
+    ensures { result ≡ leads_to length levels word number }
+{
+    page_table::leads_on(length, levels, word) & (page_table::number_of(word) == number)
+}
+
+// How many leaf words the tables have, by their index. The words themselves serve the contract only.
 pub fn leaf_count(words: &[u32], links: &[u32], presents: &[u32]) -> u32
     requires { (tables_fit words.now ≡ true) × Indexes words.now links.now presents.now }
     ensures { result ≡ leaf_count words.now }
 {
-    let tables = words.len() / page_table::TABLE;
-    let mut leaves: u32 = 0;
-    let mut t: usize = 0;
-    while t < tables {
-        let at = t;
-        t += 1;
-        if links[at] != 0 {
-            leaves += presents[at];
+    let mut leaves = 0;
+    for (link, present) in links.iter().zip(presents) {
+        if *link != 0 {
+            leaves += *present;
         }
     }
     leaves

@@ -8,20 +8,11 @@ pub(crate) fn reached_beside(words: &[u32], root: u32, directory: u32) -> bool
     requires { tables_fit words.now ≡ true }
     ensures { result ≡ reached_beside words.now root directory }
 {
-    let mut r: u32 = 0;
-    while r < crate::ROOTS {
-        let word = words[r as usize];
-        let here = page_table::leads_on(words.len(), 1, word)
-            & (page_table::number_of(word) == directory as usize);
-        if (r != root) & here {
-            return true;
-        }
-        r += 1;
-    }
-    false
+    (0..crate::ROOTS).any(|r| (r != root)
+        & crate::leads_to(words.len(), 1, words[r as usize], directory as usize))
 }
 
-// One more, or one fewer.
+// One more, or one fewer. Which way is a bool, and no enum: the contract of shift_root says the other way by `not`.
 fn step(n: u32, up: bool) -> u32
     requires { Steps up n }
     ensures { result ≡ stepped up n }
@@ -46,12 +37,8 @@ fn shift_directory(words: &[u32], links: &mut [u32], directory: usize, up: bool)
     requires { (512 * directory + 512 ≤ length words.now) × RelinksAll up words.now directory links.old }
     ensures { links.new ≡ relinked_first up words.now directory 512 links.old }
 {
-    let from = page_table::DIRECTORY * directory;
-    let mut k: usize = 0;
-    while k < page_table::DIRECTORY {
-        let word = words[from + k];
-        shift(links, words.len(), word, up);
-        k += 1;
+    for word in crate::directory(words, directory) {
+        shift(links, words.len(), *word, up);
     }
 }
 

@@ -7,7 +7,10 @@ use native.Mathlib.Omega.{arith}
 use lib.Dec.{eqb}
 use borrow.Author.Tests.{not-true, not-false, eq-eqb, ne_eqb, eqb-true}
 use Rattle.registers.specs.Refusals.{refuse_unless, machine_refusal, by_refusal}
+use Rattle.registers.specs.Numbers.{number_of}
 use Rattle.registers.specs.Replies.{refusal_of, refused, done}
+use Rattle.registers.specs.declared.refusals.Refusal.{Refusal}
+use Rattle.registers.specs.declared.refusals.Refusal.TheVariants as reason
 use Rattle.registers.specs.declared.Registers.{Registers}
 use Rattle.registers.specs.declared.Outcome.{Outcome}
 use Rattle.registers.specs.declared.Reply.{Reply}
@@ -102,3 +105,18 @@ pub reply-refusal : (number value : ℕ) (after r : Registers)
     → refusal_of (by_refusal number (done after value) (refused r number)).outcome ≡ number
 unfolding refusal_of
 reply-refusal number value after r = answer-refusal number (done after value) r refl
+
+-- the number of a refusal is never that of a call which is accepted
+pub refused-ne0 : (refusal : Refusal) → number_of refusal ≡ 0 → ⊥
+refused-ne0 reason.Registers h = omega arith
+refused-ne0 reason.Pool h = omega arith
+refused-ne0 reason.Buffer h = omega arith
+refused-ne0 reason.Tables h = omega arith
+refused-ne0 reason.Draw h = omega arith
+refused-ne0 reason.Service h = omega arith
+refused-ne0 reason.Index h = omega arith
+refused-ne0 reason.Setting h = omega arith
+refused-ne0 reason.Record h = omega arith
+refused-ne0 reason.Full h = omega arith
+refused-ne0 reason.NotHeld h = omega arith
+refused-ne0 reason.Tree h = omega arith

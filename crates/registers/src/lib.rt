@@ -1,12 +1,15 @@
 // The registers by value, the access that a call is asked for, and what a call replies.
 #![tactic(auto)]
 
-pub mod refusals;
+mod refusals;
 
 ghost use Rattle.std.specs.Prelude.{◌≡◌, ◌<◌};
 ghost use Rattle.registers.specs.Fields.{field, fits_at, from_words, put, registers_fit, to_words, zero_registers};
+ghost use Rattle.registers.specs.Numbers.{refusal_number};
 ghost use Rattle.registers.specs.Refusals.{machine_refusal};
 ghost use Rattle.registers.specs.Replies.{answered, done, refused};
+
+pub use refusals::Refusal;
 
 // Numbers 0 to 9 of document 01, then exception value * 2 + write bit.
 // TLB_HI and the cause register share vpn and page_id: tlb_hi is vpn * 64 + page_id.
@@ -164,20 +167,20 @@ pub fn zero_registers() -> Registers
     from_words([0; 11])
 }
 
-// The first three refusals of a call that takes registers, buffer and tables, by whether each fits; 0 where all do.
-pub fn machine_refusal(registers: bool, buffer: bool, tables: bool) -> u32
-    ensures { result ≡ machine_refusal registers buffer tables 0 }
+// The first three checks of a call that takes registers, buffer and tables, by whether each fits.
+pub fn machine_refusal(registers: bool, buffer: bool, tables: bool) -> Result<(), Refusal>
+    ensures { refusal_number result ≡ machine_refusal registers buffer tables 0 }
 {
     if !registers {
-        return refusals::REGISTERS;
+        return Err(Refusal::Registers);
     }
     if !buffer {
-        return refusals::BUFFER;
+        return Err(Refusal::Buffer);
     }
     if !tables {
-        return refusals::TABLES;
+        return Err(Refusal::Tables);
     }
-    0
+    Ok(())
 }
 
 pub fn refused(r: Registers, number: u32) -> Reply

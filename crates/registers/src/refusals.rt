@@ -1,37 +1,52 @@
-// The numbers that a call is refused with, by what is wrong: document 01's table, and what later requests add to it.
+// Why a call is refused, and the number that it then answers: document 01's table, and what later requests add to it.
+ghost use Rattle.std.specs.Prelude.{◌≡◌};
+ghost use Rattle.registers.specs.Numbers.{number_of};
 
-// A register field exceeds its bits; of bytes also: their number is wrong.
-pub const REGISTERS: u32 = 1;
+#[derive(Clone, Copy, Debug, PartialEq, Eq)]
+pub enum Refusal {
+    // A register field exceeds its bits; of bytes also: their number is wrong.
+    Registers,
+    // A pool's size is 0 or above 4,096, or it runs past the last frame.
+    Pool,
+    // The buffer run is not 64 long; of bytes: their number is wrong.
+    Buffer,
+    // The table run is below 1,024 words, above 67,108,864, or no multiple of 1,024; of bytes: their number is wrong.
+    Tables,
+    // The draw is above 3.
+    Draw,
+    // What is never served: an access in test mode or with context 63, and so a guarded switch and a pass above 62 too.
+    Service,
+    // The word index is at or past the run's length.
+    Index,
+    // The register number is unknown, or the value is too large for it.
+    Setting,
+    // The trace record is malformed or cut short.
+    Record,
+    // Every frame of the pool is held.
+    Full,
+    // The frame is not held, or outside the pool.
+    NotHeld,
+    // A pass can't be made over the tree: it does not stand by itself, or a frame of the pool is mapped twice, or while it is not held.
+    Tree,
+}
 
-// A pool's size is 0 or above 4,096, or it runs past the last frame: the registers' number.
-pub const POOL: u32 = REGISTERS;
+// A pool that is wrong has the registers' number.
+impl From<Refusal> for u32 {
+    ghost from_gives = { λ refusal number. number ≡ number_of refusal };
 
-// The buffer run is not 64 long; of bytes: their number is wrong.
-pub const BUFFER: u32 = 2;
-
-// The table run is below 1,024 words, above 67,108,864, or no multiple of 1,024; of bytes: their number is wrong.
-pub const TABLES: u32 = 3;
-
-// The draw is above 3.
-pub const DRAW: u32 = 4;
-
-// What is never served: an access in test mode or with context 63, and so a guarded switch and a pass above 62 too.
-pub const SERVICE: u32 = 5;
-
-// The word index is at or past the run's length.
-pub const INDEX: u32 = 6;
-
-// The register number is unknown, or the value is too large for it.
-pub const SETTING: u32 = 7;
-
-// The trace record is malformed or cut short.
-pub const RECORD: u32 = 8;
-
-// Every frame of the pool is held.
-pub const FULL: u32 = 10;
-
-// The frame is not held, or outside the pool.
-pub const NOT_HELD: u32 = 11;
-
-// A pass can't be made over the tree: it does not stand by itself, or a frame of the pool is mapped twice, or while it is not held.
-pub const TREE: u32 = 12;
+    fn from(refusal: Refusal) -> u32 {
+        match refusal {
+            Refusal::Registers | Refusal::Pool => 1,
+            Refusal::Buffer => 2,
+            Refusal::Tables => 3,
+            Refusal::Draw => 4,
+            Refusal::Service => 5,
+            Refusal::Index => 6,
+            Refusal::Setting => 7,
+            Refusal::Record => 8,
+            Refusal::Full => 10,
+            Refusal::NotHeld => 11,
+            Refusal::Tree => 12,
+        }
+    }
+}

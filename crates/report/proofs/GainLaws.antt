@@ -1,12 +1,12 @@
 -- What a call gives to the totals, in the code's words. Assumes nothing.
-use Prim.Native.Nat.{ℕ, ◌+◌, ◌≤◌, ◌<◌}
+use Prim.Native.Nat.{ℕ, ◌+◌, ◌<◌}
 use mathlib.Core.Path.{◌≡◌, refl, sym, ap, subst, ◌∙◌}
-use mathlib.Core.Bool.{Bool, true, false, cond, not}
+use mathlib.Core.Bool.{Bool, true, false, cond}
 use mathlib.Core.List.{List, [], ◌∷◌}
 use native.Mathlib.Omega.{arith}
 use lib.Dec.{eqb, leb}
 use lib.IntN.{ℤ, pos}
-use borrow.Author.Tests.{leb-true, le-leb, lt-leb, eq-eqb, ne_eqb, not-true, not-false}
+use borrow.Author.Tests.{leb-true}
 use Rattle.registers.specs.declared.Outcome.{Outcome}
 use Rattle.registers.specs.declared.Outcome.TheVariants.{At, Fault, Done, Refused}
 use Rattle.page_table.specs.Faults.{fault_kind}
@@ -15,18 +15,6 @@ use Rattle.report.specs.Gains.{gain, has_column, fault_column, fault_gains, acce
 use Rattle.report.proofs.TotalLaws.{books-none, books-one, books-then, books-stop}
 
 -- the column of a fault's kind
-pub column-low : (kind : ℕ) → kind ≤ 8 → kind + 1 ≡ fault_column kind
-unfolding fault_column
-column-low kind h = rw (le-leb kind 8 h)
-
-pub column-absent : (kind : ℕ) → 8 < kind → kind ≡ 16 → 10 ≡ fault_column kind
-unfolding fault_column
-column-absent kind h e = rw (lt-leb kind 8 h, eq-eqb kind 16 e)
-
-pub column-broken : (kind : ℕ) → 8 < kind → (kind ≡ 16 → ⊥) → 11 ≡ fault_column kind
-unfolding fault_column
-column-broken kind h e = rw (lt-leb kind 8 h, ne_eqb kind 16 e)
-
 pub column-small : (kind r : ℕ) → r ≡ fault_column kind → r < 14
 unfolding fault_column
 column-small kind r e = rw e (go (leb kind 8) refl (eqb kind 16))
@@ -39,28 +27,26 @@ column-small kind r e = rw e (go (leb kind 8) refl (eqb kind 16))
 -- a fault's ways
 module _ (id value loads : ℕ) (totals : List ℤ) (b : Bool) (mid : List ℤ)
     (p : BookAllGives id (gain SERVED (pos 1) ∷ gain LOADS (pos loads) ∷ []) totals b mid) where
-  pub fault-stop : not b ≡ true → BookAllGives id (access_gains (Fault value) loads) totals false mid
+  pub fault-stop : b ≡ false → BookAllGives id (access_gains (Fault value) loads) totals false mid
   unfolding access_gains
   fault-stop e =
-      books-stop id (gain SERVED (pos 1) ∷ gain LOADS (pos loads) ∷ []) (fault_gains (fault_kind value)) totals b mid p (not-true b e)
+      books-stop id (gain SERVED (pos 1) ∷ gain LOADS (pos loads) ∷ []) (fault_gains (fault_kind value)) totals b mid p e
 
-  module _ (e : not b ≡ false) (kind : ℕ) (kq : kind ≡ fault_kind value) (has : Bool) (told : has ≡ has_column kind) where
-    pub fault-none : not has ≡ true → BookAllGives id (access_gains (Fault value) loads) totals true mid
+  module _ (e : b ≡ true) (kind : ℕ) (kq : kind ≡ fault_kind value) where
+    pub fault-none : has_column kind ≡ false → BookAllGives id (access_gains (Fault value) loads) totals true mid
     unfolding access_gains fault_gains
     fault-none h =
-        books-then id (gain SERVED (pos 1) ∷ gain LOADS (pos loads) ∷ []) (fault_gains (fault_kind value)) totals b mid p
-        (not-false b e) true mid
+        books-then id (gain SERVED (pos 1) ∷ gain LOADS (pos loads) ∷ []) (fault_gains (fault_kind value)) totals b mid p e true mid
         (subst (λ (w : Bool). BookAllGives id (cond w (gain (fault_column (fault_kind value)) (pos 1) ∷ []) []) mid true mid)
-        (sym (not-true has h) ∙ told ∙ ap has_column kq) (books-none id mid (p.in-limit (not-false b e))))
+        (sym h ∙ ap has_column kq) (books-none id mid (p.in-limit e)))
 
-    pub fault-done : not has ≡ false → (column : ℕ) → column ≡ fault_column kind → (c : Bool) (after : List ℤ)
+    pub fault-done : has_column kind ≡ true → (column : ℕ) → column ≡ fault_column kind → (c : Bool) (after : List ℤ)
         → BookGives id (gain column (pos 1)) mid c after → BookAllGives id (access_gains (Fault value) loads) totals c after
     unfolding access_gains fault_gains
     fault-done h column q c after g =
-        books-then id (gain SERVED (pos 1) ∷ gain LOADS (pos loads) ∷ []) (fault_gains (fault_kind value)) totals b mid p
-        (not-false b e) c after
+        books-then id (gain SERVED (pos 1) ∷ gain LOADS (pos loads) ∷ []) (fault_gains (fault_kind value)) totals b mid p e c after
         (subst (λ (w : Bool). BookAllGives id (cond w (gain (fault_column (fault_kind value)) (pos 1) ∷ []) []) mid c after)
-        (sym (not-false has h) ∙ told ∙ ap has_column kq)
+        (sym h ∙ ap has_column kq)
         (books-one id (gain (fault_column (fault_kind value)) (pos 1)) mid c after
         (subst (λ (k : ℕ). BookGives id (gain k (pos 1)) mid c after) (q ∙ ap fault_column kq) g)))
 

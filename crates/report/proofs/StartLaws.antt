@@ -12,9 +12,10 @@ use Rattle.runs.proofs.Counts.{count_none}
 use Rattle.runs.proofs.Fills.{filled_at}
 use Rattle.runs.proofs.Pieces.{tab-is}
 use Rattle.registers.specs.declared.Reply.{Reply}
+use Rattle.registers.specs.declared.Registers.{Registers}
+use Rattle.page_table.specs.Stretches.{length_fits, tables_fit}
 use Rattle.page_table.specs.Words.{present}
 use Rattle.page_table.specs.Reads.{leads_on}
-use Rattle.slots.specs.Buffer.{Buffer}
 use Rattle.slots.specs.Buffer.Buffer.{Wide}
 use Rattle.control.specs.Starting.{StartGives}
 use Rattle.reach.specs.Reach.{leads_to, directory_reached, links_to}
@@ -22,6 +23,7 @@ use Rattle.reach.specs.Index.{table_count, links_from, links_of, presents_of, In
 use Rattle.trace.proofs.StartLaws.{start-machine}
 use Rattle.report.specs.Totals.{TOTALS, AllWithin}
 use Rattle.report.specs.Tallies.{ReplayStarts}
+use Rattle.report.specs.declared.Replay.{Replay}
 
 zero-at : (n j : ℕ) → ◌≡◌ {A = ℕ} (get_or (replicate n 0) j 0) 0
 zero-at n j = filled_at {A = ℕ} 0 n j
@@ -66,17 +68,26 @@ zero-total n i = filled_at (pos 0) n i
 pub zero-within : (n : ℕ) → AllWithin (replicate n (pos 0))
 zero-within n = record { each = λ i. subst (λ (z : ℤ). nat_abs z ≤ 4294967295) (sym (zero-total n i)) (omega arith) }
 
-module _ (lent : List ℕ) (after : Buffer) (reply : Reply) (words links presents : List ℕ) (totals : List ℤ) (n k l s : ℕ) where
-  pub starts : length lent ≡ 64 → StartGives (Wide lent) after reply → n ≡ 16384 → k ≡ 16 → l ≡ 16 → s ≡ TOTALS
-      → words ≡ replicate n 0 → links ≡ replicate k 0 → presents ≡ replicate l 0 → totals ≡ replicate s (pos 0)
-      → ReplayStarts (Wide lent) reply.registers after words links presents totals
-  starts e g nq kq lq sq w x p t = record {
-    machine-is = start-machine lent after reply words e g (w ∙ ap zeros nq);
+module _ (lent : List ℕ) (reply : Reply) (p : Replay) (n k l s : ℕ) where
+  pub starts : length lent ≡ 64 → StartGives (Wide lent) (Wide p.buffer.now) reply → n ≡ 16384 → k ≡ 16 → l ≡ 16 → s ≡ TOTALS
+      → p.registers ≡ reply.registers → p.words.now ≡ replicate n 0 → p.links.now ≡ replicate k 0 → p.presents.now ≡ replicate l 0
+      → p.totals.now ≡ replicate s (pos 0) → ReplayStarts (Wide lent) p
+  unfolding tables_fit length_fits
+  starts e g nq kq lq sq r w x ps t = record {
+    machine-is =
+        ap (λ (rs : Registers). record { registers = rs; buffer = Wide p.buffer.now; words = p.words.now }) r
+        ∙ start-machine lent (Wide p.buffer.now) reply p.words.now e g (w ∙ ap zeros nq);
     totals-are = t ∙ ap (λ (i : ℕ). replicate i (pos 0)) sq;
-    indexed =
-        let same : l ≡ k = omega arith in
-        subst (λ (ws : List ℕ). Indexes ws links presents) (sym w)
-        (subst (λ (ls : List ℕ). Indexes (zeros n) ls presents) (sym x)
-        (subst (λ (ps : List ℕ). Indexes (zeros n) (zeros k) ps) (sym (p ∙ ap zeros same)) (zero-indexed n k (omega arith))));
-    in-limit = subst AllWithin (sym t) (zero-within s);
+    ready = record {
+      runs = record {
+        fit = ap length_fits (ap length w ∙ length-replicate n 0 ∙ nq);
+        indexed =
+            let same : l ≡ k = omega arith in
+            subst (λ (ws : List ℕ). Indexes ws p.links.now p.presents.now) (sym w)
+            (subst (λ (ls : List ℕ). Indexes (zeros n) ls p.presents.now) (sym x)
+            (subst (λ (ps : List ℕ). Indexes (zeros n) (zeros k) ps) (sym (ps ∙ ap zeros same)) (zero-indexed n k (omega arith))));
+        columns = ap length t ∙ length-replicate s (pos 0) ∙ sq;
+      };
+      in-limit = subst AllWithin (sym t) (zero-within s);
+    };
   }

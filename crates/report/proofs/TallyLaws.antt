@@ -1,28 +1,22 @@
 -- Tallies compose, and the turns of the loop that makes one. Assumes nothing.
 use Prim.Native.Nat.{ℕ, ◌+◌, ◌-◌, ◌≤◌, ◌<◌}
 use mathlib.Core.Path.{◌≡◌, refl, sym, ap, subst, ◌∙◌}
-use mathlib.Core.Bool.{Bool, true, false, cond, not}
+use mathlib.Core.Bool.{Bool, true, false, cond}
 use mathlib.Core.List.{List, [], ◌∷◌, ◌++◌}
 use native.Mathlib.Nat.{zero-add}
 use native.Mathlib.Numerals.{add-one}
 use native.Mathlib.Omega.{arith}
 use lib.ListN.{length}
 use lib.IntN.{ℤ}
-use borrow.Author.Tests.{not-true, not-false}
-use Rattle.registers.specs.declared.Registers.{Registers}
-use Rattle.page_table.specs.Stretches.{length_fits, tables_fit}
-use Rattle.slots.specs.Buffer.{Buffer}
 use Rattle.store.specs.Machine.{Machine}
-use Rattle.reach.specs.Index.{Indexes}
 use Rattle.trace.specs.Commands.{command_at, commands_from, commands_of, record_count}
 use Rattle.trace.specs.Steps.{machine_after_step}
 use Rattle.trace.specs.declared.Command.{Command}
 use Rattle.trace.proofs.TraceLaws.{commands-more}
 use Rattle.trace.proofs.Blocks.{split, joined}
-use Rattle.report.specs.Totals.{TOTALS, AllWithin}
-use Rattle.report.specs.Ready.{Ready}
+use Rattle.report.specs.Replays.{machine_in, Ready, SameRuns}
 use Rattle.report.specs.Tallies.{Tally, booked_by, tally_step, continued, tally_of, InBlocks, CountGives}
-use Rattle.report.specs.declared.Counted.{Counted}
+use Rattle.report.specs.declared.Replay.{Replay}
 
 -- the tally of records and further ones is the first, continued
 pub tally-append : (m : Machine) (totals : List ℤ) (cs ds : List Command)
@@ -67,100 +61,89 @@ tally-one m totals c = go (booked_by m totals c).fits
     go true = refl
     go false = refl
 
--- a loop over the records: i are done, and no total has passed the limit
-module _ (m₀ : Machine) (totals₀ : List ℤ) (input : List ℕ) where
-  pub record Replayed (count : ℕ) (m : Machine) (links presents : List ℕ) (totals : List ℤ) (i : ℕ) : Type 0 where
-    pub some : i ≤ count
-    pub same : tally_of m₀ totals₀ (commands_from input 0 i) ≡ record { machine = m; totals = totals; fits = true }
-    pub indexed : Indexes m.words links presents
-    pub all : AllWithin totals
-    pub long : length totals ≡ length totals₀
-    pub wide : length m.words ≡ length m₀.words
+-- the runs stay the same over two steps
+pub runs-then : (p q r : Replay) → SameRuns p q → SameRuns q r → SameRuns p r
+runs-then p q r a b = record {
+  buffer = b.buffer ∙ a.buffer;
+  words = b.words ∙ a.words;
+  links = b.links ∙ a.links;
+  presents = b.presents ∙ a.presents;
+  totals = b.totals ∙ a.totals;
+}
 
-  pub replayed-none : (count : ℕ) (links presents : List ℕ) → Indexes m₀.words links presents → AllWithin totals₀
-      → Replayed count m₀ links presents totals₀ 0
+-- a loop over the records: i are done, and no total has passed the limit
+module _ (p₀ : Replay) (input : List ℕ) where
+  tally : List Command → Tally
+  tally cs = tally_of (machine_in p₀) p₀.totals.now cs
+
+  pub record Replayed (count : ℕ) (p : Replay) (i : ℕ) : Type 0 where
+    pub some : i ≤ count
+    pub same : tally_of (machine_in p₀) p₀.totals.now (commands_from input 0 i)
+        ≡ record { machine = machine_in p; totals = p.totals.now; fits = true }
+    pub ready : Ready p
+    pub runs : SameRuns p₀ p
+
+  pub replayed-none : (count : ℕ) → Ready p₀ → Replayed count p₀ 0
   unfolding commands_from tally_of
-  replayed-none count links presents x all = record {
+  replayed-none count ready = record {
     some = omega arith;
     same = refl;
-    indexed = x;
-    all = all;
-    long = refl;
-    wide = refl;
+    ready = ready;
+    runs = record { buffer = refl; words = refl; links = refl; presents = refl; totals = refl };
   }
 
-  module _ (count : ℕ) (m : Machine) (links presents : List ℕ) (totals : List ℤ) (i : ℕ)
-      (r : Replayed count m links presents totals i) where
-    pub replay-fits : length totals₀ ≡ TOTALS → tables_fit m₀.words ≡ true → Ready m.words links presents totals
-    unfolding tables_fit
-    replay-fits e f = record { fit = ap length_fits r.wide ∙ f; indexed = r.indexed; columns = r.long ∙ e; in-limit = r.all }
+  module _ (count : ℕ) (p : Replay) (i : ℕ) (r : Replayed count p i) (l : i < count) (c : Command) (at : c ≡ command_at input i)
+      (b : Bool) (q : Replay) (s : CountGives (tally_step (machine_in p) p.totals.now c) b q) where
+    turned : tally (commands_from input 0 (i + 1)) ≡ tally_step (machine_in p) p.totals.now c
+    unfolding continued tally
+    turned =
+        let more : commands_from input 0 (i + 1) ≡ commands_from input 0 i ++ (c ∷ []) =
+        ap (commands_from input 0) (add-one i) ∙ commands-more input 0 i
+        ∙ ap (λ (d : Command). commands_from input 0 i ++ (d ∷ [])) (ap (command_at input) (zero-add i) ∙ sym at) in
+        ap tally more
+        ∙ tally-append (machine_in p₀) p₀.totals.now (commands_from input 0 i) (c ∷ [])
+        ∙ ap (λ (t : Tally). continued t (tally_of t.machine t.totals (c ∷ []))) r.same
+        ∙ tally-one (machine_in p) p.totals.now c
 
-    module _ (l : i < count) (c : Command) (at : c ≡ command_at input i) (counted : Counted) (buffer : Buffer) (words links' presents' :
-        List ℕ)
-        (totals' : List ℤ) (s : CountGives (tally_step m totals c) counted buffer words links' presents' totals') where
-      turned : tally_of m₀ totals₀ (commands_from input 0 (i + 1)) ≡ tally_step m totals c
-      unfolding continued
-      turned =
-          let more : commands_from input 0 (i + 1) ≡ commands_from input 0 i ++ (c ∷ []) =
-          ap (commands_from input 0) (add-one i) ∙ commands-more input 0 i
-          ∙ ap (λ (d : Command). commands_from input 0 i ++ (d ∷ [])) (ap (command_at input) (zero-add i) ∙ sym at) in
-          ap (tally_of m₀ totals₀) more
-          ∙ tally-append m₀ totals₀ (commands_from input 0 i) (c ∷ [])
-          ∙ ap (λ (t : Tally). continued t (tally_of t.machine t.totals (c ∷ []))) r.same
-          ∙ tally-one m totals c
+    pub replayed-more : b ≡ true → SameRuns p q → Replayed count q (i + 1)
+    unfolding tally
+    replayed-more e k = record {
+      some = omega arith;
+      same =
+          turned
+          ∙ (λ j. record { machine = sym s.machine-is j; totals = sym s.totals-are j; fits = (sym s.fits-is ∙ e) j });
+      ready = record { runs = s.runs; in-limit = s.in-limit e };
+      runs = runs-then p₀ p q r.runs k;
+    }
 
-      pub replayed-more : not counted.fits ≡ false → length totals' ≡ length totals → length words ≡ length m.words
-          → Replayed count (record { registers = counted.registers; buffer = buffer; words = words }) links' presents' totals' (i + 1)
-      replayed-more e k w = record {
-        some = omega arith;
-        same =
-            turned
-            ∙ (λ j. record {
-              machine = sym s.machine-is j;
-              totals = sym s.totals-are j;
-              fits = (sym s.fits-is ∙ not-false
-                  counted.fits e) j;
-            });
-        indexed = s.indexed;
-        all = s.in-limit (not-false counted.fits e);
-        long = k ∙ r.long;
-        wide = w ∙ r.wide;
-      }
+    pub replayed-stop : b ≡ false → count ≡ record_count (length input)
+        → CountGives (tally_of (machine_in p₀) p₀.totals.now (commands_of input)) false q
+    unfolding commands_of continued tally
+    replayed-stop off n =
+        let rest : i + 1 + (count - (i + 1)) ≡ record_count (length input) = omega arith in
+        let whole : tally (commands_from input 0 (record_count (length input))) ≡ tally_step (machine_in p) p.totals.now c =
+        ap (λ (k : ℕ). tally (commands_from input 0 k)) (sym rest)
+        ∙ ap tally (split input 0 (i + 1) (count - (i + 1)))
+        ∙ tally-append (machine_in p₀) p₀.totals.now (commands_from input 0 (i + 1)) (commands_from input (0 + (i + 1)) (count - (i + 1)))
+        ∙ ap (λ (t : Tally). continued t (tally_of t.machine t.totals (commands_from input (0 + (i + 1)) (count - (i + 1))))) turned
+        ∙ ap (λ (b : Bool). cond b
+        (tally_of (tally_step (machine_in p) p.totals.now c).machine (tally_step (machine_in p) p.totals.now c).totals
+        (commands_from input (0 + (i + 1)) (count - (i + 1))))
+        (tally_step (machine_in p) p.totals.now c)) (sym s.fits-is ∙ off) in
+        subst (λ (t : Tally). CountGives t false q) (sym whole)
+        (record {
+          machine-is = s.machine-is;
+          totals-are = s.totals-are;
+          fits-is = sym off ∙ s.fits-is;
+          runs = s.runs;
+          in-limit = λ e. s.in-limit (off ∙ e);
+        })
 
-      pub replayed-stop : not counted.fits ≡ true → count ≡ record_count (length input)
-          → CountGives (tally_of m₀ totals₀ (commands_of input)) (record { registers = counted.registers; fits = false }) buffer words links'
-          presents' totals'
-      unfolding commands_of continued
-      replayed-stop e n =
-          let off : counted.fits ≡ false = not-true counted.fits e in
-          let rest : i + 1 + (count - (i + 1)) ≡ record_count (length input) = omega arith in
-          let whole : tally_of m₀ totals₀ (commands_from input 0 (record_count (length input))) ≡ tally_step m totals c =
-          ap (λ (k : ℕ). tally_of m₀ totals₀ (commands_from input 0 k)) (sym rest)
-          ∙ ap (tally_of m₀ totals₀) (split input 0 (i + 1) (count - (i + 1)))
-          ∙ tally-append m₀ totals₀ (commands_from input 0 (i + 1)) (commands_from input (0 + (i + 1)) (count - (i + 1)))
-          ∙ ap (λ (t : Tally). continued t (tally_of t.machine t.totals (commands_from input (0 + (i + 1)) (count - (i + 1))))) turned
-          ∙ ap (λ (b : Bool). cond b
-          (tally_of (tally_step m totals c).machine (tally_step m totals c).totals (commands_from input (0 + (i + 1)) (count - (i + 1))))
-          (tally_step m totals c)) (sym s.fits-is ∙ off) in
-          subst (λ (t : Tally). CountGives t (record { registers = counted.registers; fits = false }) buffer words links' presents'
-          totals')
-          (sym whole)
-          (record {
-            machine-is = s.machine-is;
-            totals-are = s.totals-are;
-            fits-is = sym off ∙ s.fits-is;
-            indexed = s.indexed;
-            in-limit = λ q. s.in-limit (off ∙ q);
-          })
-
-  pub replayed-all : (count : ℕ) (registers : Registers) (buffer : Buffer) (words links presents : List ℕ) (totals : List ℤ) (i : ℕ)
-      → Replayed count (record { registers = registers; buffer = buffer; words = words }) links presents totals i → count ≤ i
-      → count ≡ record_count (length input)
-      → CountGives (tally_of m₀ totals₀ (commands_of input)) (record { registers = registers; fits = true }) buffer words links presents
-      totals
+  pub replayed-all : (count : ℕ) (p : Replay) (i : ℕ) → Replayed count p i → count ≤ i → count ≡ record_count (length input)
+      → CountGives (tally_of (machine_in p₀) p₀.totals.now (commands_of input)) true p
   unfolding commands_of
-  replayed-all count registers buffer words links presents totals i r l n =
+  replayed-all count p i r l n =
       let e : i ≡ record_count (length input) = omega (arith, r.some) in
-      subst (λ (t : Tally). CountGives t (record { registers = registers; fits = true }) buffer words links presents totals)
-      (sym (ap (λ (k : ℕ). tally_of m₀ totals₀ (commands_from input 0 k)) (sym e) ∙ r.same))
-      (record { machine-is = refl; totals-are = refl; fits-is = refl; indexed = r.indexed; in-limit = λ q. r.all })
+      subst (λ (t : Tally). CountGives t true p)
+      (sym (ap (λ (k : ℕ). tally_of (machine_in p₀) p₀.totals.now (commands_from input 0 k)) (sym e) ∙ r.same))
+      (record { machine-is = refl; totals-are = refl; fits-is = refl; runs = r.ready.runs; in-limit = λ q. r.ready.in-limit })

@@ -1,7 +1,7 @@
 -- Signed totals: the test of the limit, sums that fit 64 bits, and one amount booked. Assumes nothing.
 use Prim.Native.Nat.{ℕ, zero, suc, ◌+◌, ◌-◌, ◌*◌, ◌≤◌, ◌<◌}
 use mathlib.Core.Path.{◌≡◌, refl, sym, ap, ap₂, subst, ◌∙◌}
-use mathlib.Core.Bool.{Bool, true, false, cond, not, ◌&&◌}
+use mathlib.Core.Bool.{Bool, true, false, cond, ◌&&◌}
 use mathlib.Core.List.{List, [], ◌∷◌, ◌++◌}
 use native.Mathlib.Omega.{arith}
 use lib.ListN.{length, get_or, set}
@@ -9,7 +9,7 @@ use lib.Seq.{get_or-set_same, get_or-set_other}
 use lib.Dec.{eqb, leb, ltb}
 use lib.IntN.{ℤ, pos, negsuc, nat_abs, sub_ℕ, ◌+ℤ◌, ◌-ℤ◌}
 use lib.Signed.{le_z}
-use borrow.Author.Tests.{eqb-true, eqb-false, leb-true, leb-false, le-leb, lt-leb, not-true, not-false}
+use borrow.Author.Tests.{eqb-true, eqb-false, leb-true, leb-false, le-leb, lt-leb}
 use mir.Syntax.{w64}
 use mir.Val.{SFits, of_z, to_z}
 use mir.ValLaws.{to_z-of_z}
@@ -179,12 +179,12 @@ module _ (id : ℕ) (gs hs : List Gain) (totals : List ℤ) (b : Bool) (mid : Li
 
 -- two amounts
 module _ (id : ℕ) (g h : Gain) (totals : List ℤ) (b : Bool) (mid : List ℤ) (p : BookGives id g totals b mid) where
-  pub two-stop : not b ≡ true → BookAllGives id (g ∷ h ∷ []) totals false mid
-  two-stop e = books-stop id (g ∷ []) (h ∷ []) totals b mid (books-one id g totals b mid p) (not-true b e)
+  pub two-stop : b ≡ false → BookAllGives id (g ∷ h ∷ []) totals false mid
+  two-stop e = books-stop id (g ∷ []) (h ∷ []) totals b mid (books-one id g totals b mid p) e
 
-  pub two-done : not b ≡ false → (c : Bool) (after : List ℤ) → BookGives id h mid c after → BookAllGives id (g ∷ h ∷ []) totals c after
+  pub two-done : b ≡ true → (c : Bool) (after : List ℤ) → BookGives id h mid c after → BookAllGives id (g ∷ h ∷ []) totals c after
   two-done e c after q =
-      books-then id (g ∷ []) (h ∷ []) totals b mid (books-one id g totals b mid p) (not-false b e) c after (books-one id h mid c after q)
+      books-then id (g ∷ []) (h ∷ []) totals b mid (books-one id g totals b mid p) e c after (books-one id h mid c after q)
 
 -- an amount in other words
 pub book-as : (id column : ℕ) (x y : ℤ) (totals : List ℤ) (b : Bool) (after : List ℤ) → x ≡ y → BookGives id (gain column x) totals b after

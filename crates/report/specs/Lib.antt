@@ -1,5 +1,5 @@
 pub mod Totals
-pub mod Ready
+pub mod Replays
 pub mod Gains
 pub mod Tallies
 pub mod Sums

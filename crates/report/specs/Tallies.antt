@@ -1,16 +1,15 @@
 -- The totals of a file: its records are replayed one after the other, and each books its gains under the context of that moment.
 use Rattle.std.specs.Prelude.{ℕ, ◌*◌, ◌≡◌, Bool, true, cond, List, [], ◌∷◌, ◌++◌, length, replicate, ℤ, pos}
-use Rattle.registers.specs.declared.Registers.{Registers}
 use Rattle.slots.specs.Buffer.{Buffer}
 use Rattle.store.specs.Machine.{Machine}
-use Rattle.reach.specs.Index.{Indexes}
 use Rattle.trace.specs.Commands.{commands_of}
 use Rattle.trace.specs.Steps.{machine_after_step}
 use Rattle.trace.specs.Traces.{start_machine}
 use Rattle.trace.specs.declared.Command.{Command}
 use Rattle.report.specs.Totals.{TOTALS, Booked, booked_all, AllWithin}
 use Rattle.report.specs.Gains.{gains_of}
-use Rattle.report.specs.declared.Counted.{Counted}
+use Rattle.report.specs.Replays.{machine_in, RunsFit, Ready}
+use Rattle.report.specs.declared.Replay.{Replay}
 
 -- The machine and the totals after some records, and whether every total stayed within the limit. The file stops at the first record that
 -- takes one past it: number 9. That record's gains are then booked up to the one that passed, and the totals are not printed.
@@ -40,12 +39,10 @@ unfoldable pub file_tally : (lent : Buffer) (input : List ℕ) → Tally
 file_tally lent input = tally_of (start_machine lent) (replicate TOTALS (pos 0)) (commands_of input)
 
 -- What the start of a replay promises, whatever was lent: the start state, zero tables with their index, and totals that are all 0.
-pub record ReplayStarts (lent : Buffer) (registers : Registers) (buffer : Buffer) (words links presents : List ℕ) (totals : List ℤ)
-    : Type 0 where
-  pub machine-is : record { registers = registers; buffer = buffer; words = words } ≡ start_machine lent
-  pub totals-are : totals ≡ replicate TOTALS (pos 0)
-  pub indexed : Indexes words links presents
-  pub in-limit : AllWithin totals
+pub record ReplayStarts (lent : Buffer) (p : Replay) : Type 0 where
+  pub machine-is : machine_in p ≡ start_machine lent
+  pub totals-are : p.totals.now ≡ replicate TOTALS (pos 0)
+  pub ready : Ready p
 
 -- Reading in blocks gives the tally of the whole file: where a first stretch is whole records, the tally of both is that of the first,
 -- continued by that of the rest from the machine and the totals that it left.
@@ -55,25 +52,11 @@ InBlocks = (m : Machine) (totals : List ℤ) (n : ℕ) (xs ys : List ℕ) → le
     ≡ continued (tally_of m totals (commands_of xs))
     (tally_of (tally_of m totals (commands_of xs)).machine (tally_of m totals (commands_of xs)).totals (commands_of ys))
 
--- What counting some records promises: the registers, the runs and the totals are those of a tally, and the index is still that of the
--- tables.
-pub record CountGives (t : Tally) (counted : Counted) (buffer-after : Buffer) (words-after links-after presents-after : List ℕ)
-    (totals-after : List ℤ) : Type 0 where
-  pub machine-is : record { registers = counted.registers; buffer = buffer-after; words = words-after } ≡ t.machine
-  pub totals-are : totals-after ≡ t.totals
-  pub fits-is : counted.fits ≡ t.fits
-  pub indexed : Indexes words-after links-after presents-after
-  pub in-limit : counted.fits ≡ true → AllWithin totals-after
-
--- the same of an access, which leaves the tables
-pub record AccessCountGives (t : Tally) (counted : Counted) (buffer-after : Buffer) (words-after : List ℕ) (totals-after : List ℤ)
-    : Type 0 where
-  pub machine-is : record { registers = counted.registers; buffer = buffer-after; words = words-after } ≡ t.machine
-  pub totals-are : totals-after ≡ t.totals
-  pub fits-is : counted.fits ≡ t.fits
-  pub in-limit : counted.fits ≡ true → AllWithin totals-after
-
--- and of a record that gives nothing
-pub record PlainCountGives (m : Machine) (c : Command) (counted : Counted) (buffer-after : Buffer) (words-after : List ℕ) : Type 0 where
-  pub machine-is : record { registers = counted.registers; buffer = buffer-after; words = words-after } ≡ machine_after_step m c
-  pub fits-is : counted.fits ≡ true
+-- What counting some records promises: the registers, the runs and the totals are those of a tally, the index is still that of the
+-- tables, and where the tally says so, every total is within the limit.
+pub record CountGives (t : Tally) (fits : Bool) (p : Replay) : Type 0 where
+  pub machine-is : machine_in p ≡ t.machine
+  pub totals-are : p.totals.now ≡ t.totals
+  pub fits-is : fits ≡ t.fits
+  pub runs : RunsFit p
+  pub in-limit : fits ≡ true → AllWithin p.totals.now

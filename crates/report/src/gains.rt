@@ -1,8 +1,9 @@
 // What a call gives to the totals: an accepted served access, or an accepted store.
-ghost use Rattle.std.specs.Prelude.{[], ◌∷◌, ◌≡◌, ◌≤◌, length, pos, ◌-ℤ◌};
+ghost use Rattle.std.specs.Prelude.{[], ◌∷◌, ◌≡◌, SomeIff, true, is_ok, length, pos, ◌-ℤ◌};
 ghost use Rattle.report.specs.Gains.{access_gains, fault_column, gain, has_column};
 ghost use Rattle.report.specs.Totals.{AllWithin, BookAllGives, CHANGE, EMPTIED, LOADS, SERVED, TOTALS};
 
+use crate::PastLimit;
 use crate::totals::book;
 use registers::Outcome;
 
@@ -19,24 +20,17 @@ const EMPTIED: u32 = 12;
 
 const CHANGE: u32 = 13;
 
-// The kinds of faults that have a column: 1 to 8, 16 and 32.
-fn has_column(kind: u32) -> bool
-    ensures { result ≡ has_column kind }
+// The column of a fault's kind: 1 to 8, 16 and 32 have one.
+#[tactic(auto, unfolding(crate::specs::Gains::has_column, crate::specs::Gains::fault_column))]
+fn fault_column(kind: u32) -> Option<u32>
+    ensures { SomeIff result (has_column kind ≡ true) (fault_column kind) }
 {
-    ((1 <= kind) & (kind <= 8)) | (kind == page_table::ABSENT) | (kind == page_table::BROKEN)
-}
-
-// The column of such a kind.
-fn fault_column(kind: u32) -> u32
-    ensures { result ≡ fault_column kind }
-{
-    if kind <= 8 {
-        return kind + 1;
+    match kind {
+        1..=8 => Some(kind + 1),
+        page_table::ABSENT => Some(ABSENT_FAULTS),
+        page_table::BROKEN => Some(BROKEN_FAULTS),
+        _ => None,
     }
-    if kind == page_table::ABSENT {
-        return ABSENT_FAULTS;
-    }
-    BROKEN_FAULTS
 }
 
 // The number as a signed one.
@@ -56,56 +50,59 @@ fn difference(a: u32, b: u32) -> i64
 }
 
 // An accepted access counts once, with its loads.
-fn book_served(totals: &mut [i64], id: u32, loads: u32) -> bool
+fn book_served(totals: &mut [i64], id: u32, loads: u32) -> Result<(), PastLimit>
     requires { (length totals.old ≡ TOTALS) × AllWithin totals.old }
-    ensures { BookAllGives id (gain SERVED (pos 1) ∷ gain LOADS (pos loads) ∷ []) totals.old result totals.new }
+    ensures { BookAllGives id (gain SERVED (pos 1) ∷ gain LOADS (pos loads) ∷ []) totals.old (is_ok result) totals.new }
 {
-    if !book(totals, id, SERVED, 1) {
-        return false;
-    }
+    book(totals, id, SERVED, 1)?;
     let amount = wide(loads);
     book(totals, id, LOADS, amount)
 }
 
 // A fault counts by its kind as well, wherever its walk stopped.
-fn book_fault(totals: &mut [i64], id: u32, value: u32, loads: u32) -> bool
+fn book_fault(totals: &mut [i64], id: u32, value: u32, loads: u32) -> Result<(), PastLimit>
     requires { (length totals.old ≡ TOTALS) × AllWithin totals.old }
-    ensures { BookAllGives id (access_gains (Outcome.Fault value) loads) totals.old result totals.new }
+    ensures { BookAllGives id (access_gains (Outcome.Fault value) loads) totals.old (is_ok result) totals.new }
 {
-    if !book_served(totals, id, loads) {
-        return false;
+    book_served(totals, id, loads)?;
+    match fault_column(page_table::fault_kind(value)) {
+        Some(column) => book(totals, id, column, 1),
+        None => Ok(()),
     }
-    let kind = page_table::fault_kind(value);
-    if !has_column(kind) {
-        return true;
-    }
-    let column = fault_column(kind);
-    book(totals, id, column, 1)
 }
 
 // Books what an access gives, by its outcome; a refused one gives nothing.
-pub(crate) fn book_access(totals: &mut [i64], id: u32, outcome: Outcome, loads: u32) -> bool
+pub(crate) fn book_access(
+    totals: &mut [i64],
+    id: u32,
+    outcome: Outcome,
+    loads: u32,
+) -> Result<(), PastLimit>
     requires { (length totals.old ≡ TOTALS) × AllWithin totals.old }
-    ensures { BookAllGives id (access_gains outcome loads) totals.old result totals.new }
+    ensures { BookAllGives id (access_gains outcome loads) totals.old (is_ok result) totals.new }
 {
     match outcome {
         Outcome::At(_) => book_served(totals, id, loads),
         Outcome::Fault(value) => book_fault(totals, id, value, loads),
-        Outcome::Done(_) => true,
-        Outcome::Refused(_) => true,
+        Outcome::Done(_) => Ok(()),
+        Outcome::Refused(_) => Ok(()),
     }
 }
 
 // Books what an accepted store gives: the slots that it emptied, and leaf words after minus leaf words before.
-pub(crate) fn book_store(totals: &mut [i64], id: u32, emptied: u32, before: u32, after: u32) -> bool
+pub(crate) fn book_store(
+    totals: &mut [i64],
+    id: u32,
+    emptied: u32,
+    before: u32,
+    after: u32,
+) -> Result<(), PastLimit>
     requires { (length totals.old ≡ TOTALS) × AllWithin totals.old }
     ensures { BookAllGives id (gain EMPTIED (pos emptied) ∷ gain CHANGE (pos after -ℤ pos before) ∷ [])
-        totals.old result totals.new }
+        totals.old (is_ok result) totals.new }
 {
     let amount = wide(emptied);
-    if !book(totals, id, EMPTIED, amount) {
-        return false;
-    }
+    book(totals, id, EMPTIED, amount)?;
     let change = difference(after, before);
     book(totals, id, CHANGE, change)
 }

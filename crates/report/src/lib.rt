@@ -8,12 +8,17 @@ mod totals;
 mod traces;
 
 use registers::Registers;
-pub use starting::start;
-pub use traces::run;
 
-// After some records: the registers, and whether every total is within the limit.
-#[derive(Clone, Copy)]
-pub struct Counted {
+// A total passed the limit.
+#[derive(Clone, Copy, PartialEq, Eq, Debug)]
+pub struct PastLimit;
+
+// What a replay works on: the registers, and the runs that it is lent. The tables have their index beside them.
+pub struct Replay<'a> {
     pub registers: Registers,
-    pub fits: bool,
+    pub buffer: &'a mut [u64],
+    pub words: &'a mut [u32],
+    pub links: &'a mut [u32],
+    pub presents: &'a mut [u32],
+    pub totals: &'a mut [i64],
 }

@@ -1,119 +1,73 @@
 // A record's step, with what it gives to the totals of the identification under which it is made.
-ghost use Rattle.std.specs.Prelude.{◌≡◌, get_or, length};
-ghost use Rattle.slots.specs.Buffer.{Buffer};
+ghost use Rattle.std.specs.Prelude.{is_ok};
 ghost use Rattle.trace.specs.declared.Command.{Command as Asked};
-ghost use Rattle.report.specs.Ready.{Ready};
-ghost use Rattle.report.specs.Tallies.{AccessCountGives, CountGives, PlainCountGives, tally_step};
-ghost use Rattle.report.specs.Totals.{AllWithin, TOTALS};
+ghost use Rattle.report.specs.Replays.{Ready, SameRuns, Stepped, machine_in};
+ghost use Rattle.report.specs.Tallies.{CountGives, tally_step};
 
-use crate::Counted;
 use crate::gains::{book_access, book_store};
-use registers::{Access, Outcome, Registers};
+use crate::{PastLimit, Replay};
+use registers::{Access, Outcome, Reply};
 use trace::Command;
 
-// The word at an index, or 0 where the run has none.
-fn word_or_zero(words: &[u32], index: u32) -> u32
-    ensures { result ≡ get_or words.now index 0 }
-{
-    if words.len() <= index as usize {
-        return 0;
+impl<'a> Replay<'a> {
+    // Makes a record's call, and keeps the registers that it leaves.
+    fn step(&mut self, command: Command) -> Reply
+        ensures runs { SameRuns self.old self.new }
+        ensures stepped { Stepped self.old command result self.new }
+    {
+        let reply = trace::step(self.registers, self.buffer, self.words, command);
+        self.registers = reply.registers;
+        reply
     }
-    words[index as usize]
-}
 
-// An access: the call, and what it gives.
-fn count_access(
-    r: Registers,
-    buffer: &mut [u64],
-    words: &mut [u32],
-    totals: &mut [i64],
-    access: Access,
-) -> Counted
-    requires { (length totals.old ≡ TOTALS) × AllWithin totals.old }
-    ensures { AccessCountGives
-        (tally_step (record { registers = r; buffer = Buffer.Wide buffer.old; words = words.old })
-        totals.old (Asked.Serve access))
-        result (Buffer.Wide buffer.new) words.new totals.new }
-{
-    let context = r.context;
-    let reply = trace::step(r, buffer, words, Command::Serve(access));
-    let outcome = reply.outcome;
-    let fits = book_access(totals, context, outcome, reply.loads);
-    let registers = reply.registers;
-    Counted { registers, fits }
-}
+    // An access: the call, and what it gives.
+    fn count_access(&mut self, access: Access) -> Result<(), PastLimit>
+        requires { Ready self.old }
+        ensures runs { SameRuns self.old self.new }
+        ensures counted { CountGives (tally_step (machine_in self.old) self.old.totals.now (Asked.Serve access)) (is_ok result) self.new }
+    {
+        let context = self.registers.context;
+        let reply = self.step(Command::Serve(access));
+        book_access(self.totals, context, reply.outcome, reply.loads)
+    }
 
-// A store: the call, and what it gives. The index follows the tables.
-fn count_store(
-    r: Registers,
-    buffer: &mut [u64],
-    words: &mut [u32],
-    links: &mut [u32],
-    presents: &mut [u32],
-    totals: &mut [i64],
-    index: u32,
-    value: u32,
-) -> Counted
-    requires { Ready words.old links.old presents.old totals.old }
-    ensures { CountGives
-        (tally_step (record { registers = r; buffer = Buffer.Wide buffer.old; words = words.old })
-        totals.old (Asked.Store index value))
-        result (Buffer.Wide buffer.new) words.new links.new presents.new totals.new }
-{
-    let context = r.context;
-    let before = reach::leaf_count(words, links, presents);
-    let old = word_or_zero(words, index);
-    let reply = trace::step(r, buffer, words, Command::Store(index, value));
-    let outcome = reply.outcome;
-    let registers = reply.registers;
-    let Outcome::Done(emptied) = outcome else {
-        return Counted {
-            registers,
-            fits: true,
+    // A store: the call, and what it gives. The index follows the tables.
+    fn count_store(&mut self, index: u32, value: u32) -> Result<(), PastLimit>
+        requires { Ready self.old }
+        ensures runs { SameRuns self.old self.new }
+        ensures counted { CountGives (tally_step (machine_in self.old) self.old.totals.now (Asked.Store index value)) (is_ok result) self.new }
+    {
+        let context = self.registers.context;
+        let words = &mut *self.words;
+        let links = &mut *self.links;
+        let presents = &mut *self.presents;
+        let before = reach::leaf_count(words, links, presents);
+        let old = words.get(index as usize).copied().unwrap_or(0);
+        let reply = self.step(Command::Store(index, value));
+        let Outcome::Done(emptied) = reply.outcome else {
+            return Ok(());
         };
-    };
-    reach::stored(words, links, presents, index, old);
-    let after = reach::leaf_count(words, links, presents);
-    let fits = book_store(totals, context, emptied, before, after);
-    Counted { registers, fits }
-}
-
-// A record that gives nothing: a setting, or one that is malformed.
-fn count_plain(r: Registers, buffer: &mut [u64], words: &mut [u32], command: Command) -> Counted
-    ensures { PlainCountGives
-        (record { registers = r; buffer = Buffer.Wide buffer.old; words = words.old })
-        command result (Buffer.Wide buffer.new) words.new }
-{
-    let reply = trace::step(r, buffer, words, command);
-    let registers = reply.registers;
-    Counted {
-        registers,
-        fits: true,
+        let words = &mut *self.words;
+        let links = &mut *self.links;
+        let presents = &mut *self.presents;
+        reach::stored(words, links, presents, index, old);
+        let after = reach::leaf_count(words, links, presents);
+        book_store(self.totals, context, emptied, before, after)
     }
-}
 
-// Makes a record's call and books what it gives.
-pub(crate) fn count_step(
-    r: Registers,
-    buffer: &mut [u64],
-    words: &mut [u32],
-    links: &mut [u32],
-    presents: &mut [u32],
-    totals: &mut [i64],
-    command: Command,
-) -> Counted
-    requires { Ready words.old links.old presents.old totals.old }
-    ensures { CountGives
-        (tally_step (record { registers = r; buffer = Buffer.Wide buffer.old; words = words.old })
-        totals.old command)
-        result (Buffer.Wide buffer.new) words.new links.new presents.new totals.new }
-{
-    match command {
-        Command::Serve(access) => count_access(r, buffer, words, totals, access),
-        Command::Store(index, value) => {
-            count_store(r, buffer, words, links, presents, totals, index, value)
+    // Makes a record's call and books what it gives. A setting gives nothing, nor does a record that is malformed.
+    pub(crate) fn count_step(&mut self, command: Command) -> Result<(), PastLimit>
+        requires { Ready self.old }
+        ensures runs { SameRuns self.old self.new }
+        ensures counted { CountGives (tally_step (machine_in self.old) self.old.totals.now command) (is_ok result) self.new }
+    {
+        match command {
+            Command::Serve(access) => self.count_access(access),
+            Command::Store(index, value) => self.count_store(index, value),
+            Command::Set(_, _) | Command::Malformed => {
+                self.step(command);
+                Ok(())
+            }
         }
-        Command::Set(_, _) => count_plain(r, buffer, words, command),
-        Command::Malformed => count_plain(r, buffer, words, command),
     }
 }

@@ -1,5 +1,5 @@
 -- The report's lines part by part, and the turns of the loops that write them. Assumes nothing.
-use Prim.Native.Nat.{ℕ, suc, ◌+◌, ◌*◌, ◌≤◌, ◌<◌}
+use Prim.Native.Nat.{ℕ, suc, ◌+◌, ◌-◌, ◌*◌, ◌≤◌, ◌<◌}
 use mathlib.Core.Path.{◌≡◌, refl, sym, ap, subst, ◌∙◌}
 use mathlib.Core.List.{List, [], ◌++◌}
 use native.Mathlib.Nat.{add-zero, mul-suc, mul-le-mul_left}
@@ -7,6 +7,8 @@ use native.Mathlib.Numerals.{add-one}
 use native.Mathlib.Omega.{arith}
 use lib.IntN.{ℤ, pos}
 use lib.ListN.{length, get_or, take, drop, take-append-drop}
+use lib.Seq.{get_or-take, get_or-drop}
+use borrow.Rule.Slice.PartMut.{mid_of, mid_len}
 use Rattle.line.specs.Text.{ascii, decimal, decimal_length, overwritten, TextPut}
 use Rattle.line.proofs.TextLaws.{length-le, Stage, first-stage, next-stage, room}
 use Rattle.line.proofs.LineLaws.{decimal-wide, long-le}
@@ -83,6 +85,12 @@ total-put run at n read between middle behind after e h p q b =
     (further run at (ascii " ") 1 between middle (signed read) 20 behind after
     (first-stage run at (ascii " ") 1 between middle p (omega arith) (omega arith)) q b (omega arith)))
 
+pub space-room : (run : List ℕ) (at between : ℕ) (middle : List ℕ) → at + 21 ≤ length run → TextPut run at (ascii " ") between middle
+    → between + 20 ≤ length middle
+unfolding ascii
+space-room run at between middle h p =
+    room run at (ascii " ") 1 between middle 20 (first-stage run at (ascii " ") 1 between middle p (omega arith) (omega arith)) (omega arith)
+
 -- one total more
 pub totals-none : (totals : List ℤ) (from : ℕ) → totals_text totals from 0 ≡ []
 unfolding totals_text
@@ -92,6 +100,15 @@ pub totals-more : (totals : List ℤ) (from i : ℕ) (read : ℤ) → read ≡ g
     → totals_text totals from (suc i) ≡ totals_text totals from i ++ total_text read
 unfolding totals_text
 totals-more totals from i read e = ap (λ (z : ℤ). totals_text totals from i ++ total_text z) (sym e)
+
+-- fourteen totals from an index on
+module _ (totals : List ℤ) (from : ℕ) (h : from + 14 ≤ length totals) where
+  pub part-length : length (mid_of from (from + 14 - from) totals) ≡ 14
+  part-length = mid_len from (from + 14) totals h ∙ omega arith
+
+  pub part-at : (i : ℕ) → i < 14 → get_or (mid_of from (from + 14 - from) totals) i (pos 0) ≡ get_or totals (from + i) (pos 0)
+  part-at i l =
+      get_or-take (from + 14 - from) (drop from totals) i (pos 0) (omega arith) ∙ get_or-drop from totals i (pos 0)
 
 -- a file's number has at most 20 digits, an identification at most two
 id-le : (id : ℕ) → id < 63 → decimal_length id ≤ 2
@@ -135,13 +152,24 @@ module _ (run : List ℕ) (at number : ℕ) (w : number < 18446744073709551616) 
         (next-stage run at (decimal number ++ ascii " ") 21 b' r' (decimal id) 2 b'' r'' space-stage t (omega arith) (omega arith))
 
 -- a file's one line: its number and a word behind it
-pub single-put : (run : List ℕ) (number : ℕ) (w : number < 18446744073709551616) (b : ℕ) (r word : List ℕ) (b' : ℕ) (r' : List ℕ)
-    → 32 ≤ length run → length word ≤ 12 → TextPut run 0 (decimal number) b r → TextPut r b word b' r'
-    → TextPut run 0 (decimal number ++ word) b' r' × (b' ≤ length r')
-single-put run number w b r word b' r' h m p q =
+pub single-put : (run : List ℕ) (number : ℕ) (w : number < 18446744073709551616) (b : ℕ) (r word : List ℕ) (b' : ℕ) (r' after : List ℕ)
+    → 32 ≤ length run → length word ≤ 12 → TextPut run 0 (decimal number) b r → TextPut r b word b' r' → after ≡ r'
+    → TextPut run 0 (decimal number ++ word) b' after × (b' ≤ length after)
+single-put run number w b r word b' r' after h m p q l =
     let s = word-behind run 0 number w b r p 12 word b' r' (omega arith) m q in
     let e = s.put.behind-is in
-    (s.put, omega (arith, s.most, s.long))
+    rw l (s.put, omega (arith, s.most, s.long))
+
+-- room behind a head, and behind the totals
+module _ (run : List ℕ) (at : ℕ) (head : List ℕ) (b : ℕ) (r : List ℕ) (h : at + 318 ≤ length run) (p : TextPut run at head b r)
+    (m : b ≤ at + 23) where
+  pub head-room : b + 294 ≤ length r
+  head-room = room run at head 23 b r 294 (begun run at head 23 b r p m (omega arith)) (omega arith)
+
+  pub end-room : (totals : List ℕ) (b' : ℕ) (r' : List ℕ) → TextPut r b totals b' r' → b' ≤ b + 294 → b' + 1 ≤ length r'
+  end-room totals b' r' q n =
+      room run at (head ++ totals) 317 b' r' 1
+      (further run at head 23 b r totals 294 b' r' (begun run at head 23 b r p m (omega arith)) q n (omega arith)) (omega arith)
 
 -- an identification's line: its head, its totals and its end
 pub row_put : (run : List ℕ) (at number id : ℕ) (totals : List ℤ) (b : ℕ) (r : List ℕ) (b' : ℕ) (r' : List ℕ) (b'' : ℕ) (r'' : List ℕ)
@@ -165,10 +193,10 @@ unfolding rows_of
 rows_more number totals i = refl
 
 -- all of them
-pub report-put : (run : List ℕ) (number : ℕ) (totals : List ℤ) (out : List ℕ) (to i : ℕ) → 63 * 318 ≤ length run
-    → Growing run 0 (λ n. rows_of number n totals) 318 63 out to i → 63 ≤ i
-    → TextPut run 0 (report_of number totals) to out × (to ≤ length out)
+pub report-put : (run : List ℕ) (number : ℕ) (totals : List ℤ) (out : List ℕ) (to i : ℕ) (after : List ℕ) → 63 * 318 ≤ length run
+    → Growing run 0 (λ n. rows_of number n totals) 318 63 out to i → 63 ≤ i → after ≡ out
+    → TextPut run 0 (report_of number totals) to after × (to ≤ length after)
 unfolding report_of
-report-put run number totals out to i h g l =
+report-put run number totals out to i after h g l q =
     let a = growing-all run 0 (λ n. rows_of number n totals) 318 63 out to i g l in
-    (a.0, omega (arith, a.1, g.stage.long))
+    rw q (a.0, omega (arith, a.1, g.stage.long))

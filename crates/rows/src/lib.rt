@@ -3,12 +3,12 @@
 
 mod row;
 
-ghost use Rattle.std.specs.Prelude.{◌≡◌, ◌*◌, ◌≤◌, length};
-ghost use Rattle.line.specs.Text.{TextPut};
+ghost use Rattle.std.specs.Prelude.{◌≡◌, ◌*◌, ◌≤◌, ◌++◌, length};
+ghost use Rattle.line.specs.Text.{TextPut, decimal};
 ghost use Rattle.rows.specs.Rows.{LINES, ROW, TOTALS, refused_text, report_of, unread_text};
 
 use crate::row::put_row;
-use line::{put_decimal, put_text};
+use line::Text;
 
 // A file has a line for each identification from 0 to 62.
 pub const LINES: usize = 63;
@@ -22,13 +22,29 @@ pub fn put_report(out: &mut [u8], number: u64, totals: &[i64]) -> usize
     ensures text { TextPut out.old 0 (report_of number totals.now) result out.new }
     ensures room { result ≤ length out.new }
 {
-    let mut at: usize = 0;
-    let mut id: usize = 0;
-    while id < LINES {
-        at = put_row(out, at, number, id, totals);
-        id += 1;
+    let mut text = Text {
+        bytes: out,
+        length: 0,
+    };
+    for id in 0..LINES {
+        put_row(&mut text, number, id, totals);
     }
-    at
+    text.length
+}
+
+// Writes a file's one line: its number and a word.
+fn put_single(out: &mut [u8], number: u64, word: &[u8]) -> usize
+    requires { (32 ≤ length out.old) × (length word.now ≤ 12) }
+    ensures text { TextPut out.old 0 (decimal number ++ word.now) result out.new }
+    ensures room { result ≤ length out.new }
+{
+    let mut text = Text {
+        bytes: out,
+        length: 0,
+    };
+    text.put_decimal(number);
+    text.put(word);
+    text.length
 }
 
 // Writes the line of a file that was stopped.
@@ -37,8 +53,7 @@ pub fn put_refused(out: &mut [u8], number: u64) -> usize
     ensures text { TextPut out.old 0 (refused_text number) result out.new }
     ensures room { result ≤ length out.new }
 {
-    let word = put_decimal(out, 0, number);
-    put_text(out, word, b" refused 9\n")
+    put_single(out, number, b" refused 9\n")
 }
 
 // Writes the line of a file that can't be read.
@@ -47,6 +62,5 @@ pub fn put_unread(out: &mut [u8], number: u64) -> usize
     ensures text { TextPut out.old 0 (unread_text number) result out.new }
     ensures room { result ≤ length out.new }
 {
-    let word = put_decimal(out, 0, number);
-    put_text(out, word, b" unread\n")
+    put_single(out, number, b" unread\n")
 }

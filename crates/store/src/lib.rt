@@ -5,6 +5,7 @@ ghost use Rattle.std.specs.Prelude.{true, [], ◌∷◌, ◌≡◌, ◌<◌, ◌
 ghost use Rattle.entry.specs.Address.{PAGES};
 ghost use Rattle.entry.specs.Entry.{pack, unpack};
 ghost use Rattle.page_table.specs.Stretches.{ROOTS};
+ghost use Rattle.registers.specs.Numbers.{refusal_number};
 ghost use Rattle.slots.specs.Buffer.{Buffer, buffer_fits};
 ghost use Rattle.store.specs.Leaf.{leaf_entry};
 ghost use Rattle.store.specs.Sweep.{SweepGives, agrees_with_leaf, goes, kept, settled};
@@ -13,8 +14,8 @@ ghost use Rattle.store.specs.Rewrite.{RewriteGives};
 ghost use Rattle.store.specs.TableStore.{TableStoreGives, store_refusal};
 
 use entry::Entry;
-use page_table::{Found, Walk};
-use registers::{Registers, Reply, refusals};
+use page_table::{Found, TableRun, Walk};
+use registers::{Refusal, Registers, Reply};
 
 // A page under an identification.
 #[derive(Clone, Copy)]
@@ -76,15 +77,15 @@ pub fn agrees_with_leaf(found: Walk, page: Page, e: u64) -> bool
 }
 
 // The entry of a slot is empty, or the tables give what it claims.
-fn kept(words: &[u32], slot: u32, e: u64) -> bool
-    requires { (ROOTS ≤ length words.now) × (slot < 64) × (e < 2 ^ 44) }
-    ensures { result ≡ kept words.now slot (unpack e) }
+fn kept<T: TableRun>(tables: T, slot: u32, e: u64) -> bool
+    requires { (ROOTS ≤ length (T.words tables)) × (slot < 64) × (e < 2 ^ 44) }
+    ensures { result ≡ kept (T.words tables) slot (unpack e) }
 {
     match claim_of(slot, e) {
         Claim::Nothing => true,
         Claim::Void => false,
         Claim::Of(page) => {
-            let found = page_table::walk_page(words, page.id, page.vpn);
+            let found = page_table::walk_page(tables, page.id, page.vpn);
             agrees_with_leaf(found, page, e)
         }
     }
@@ -105,49 +106,45 @@ pub fn settle(buffer: &mut [u64], slot: u32, keep: bool) -> u32
 }
 
 // Empties every slot that is not kept, and answers how many.
-fn sweep(buffer: &mut [u64], words: &[u32]) -> u32
-    requires { (buffer_fits (Buffer.Wide buffer.old) ≡ true) × (ROOTS ≤ length words.now) }
-    ensures { SweepGives words.now (Buffer.Wide buffer.old) (Buffer.Wide buffer.new) result }
+pub fn sweep<T: TableRun>(buffer: &mut [u64], tables: T) -> u32
+    requires { (buffer_fits (Buffer.Wide buffer.old) ≡ true) × (ROOTS ≤ length (T.words tables)) }
+    ensures { SweepGives (T.words tables) (Buffer.Wide buffer.old) (Buffer.Wide buffer.new) result }
 {
     let mut emptied: u32 = 0;
-    let mut slot: u32 = 0;
-    while slot < 64 {
+    for slot in 0..64 {
         let e = slots::slot_at(buffer, slot);
-        let keep = kept(words, slot, e);
+        let keep = kept(tables, slot, e);
         emptied += settle(buffer, slot, keep);
-        slot += 1;
     }
     emptied
 }
 
-// Writes one word and sweeps; answers how many slots were emptied.
+// Writes one word and sweeps; answers how many slots were emptied. The bytes have these two lines too: a run that is lent to be written
+// is not copied, as a `TableRun` is, and no trait can lend it on for a shorter time.
 pub fn rewrite(buffer: &mut [u64], words: &mut [u32], index: u32, value: u32) -> u32
     requires { (buffer_fits (Buffer.Wide buffer.old) ≡ true) × (ROOTS ≤ length words.old) × (index < length words.old) }
     ensures { RewriteGives ((record { index = index; value = value }) ∷ []) words.old words.new
         (Buffer.Wide buffer.old) (Buffer.Wide buffer.new) result }
 {
     words[index as usize] = value;
-    sweep(buffer, words)
+    sweep(buffer, &*words)
 }
 
-// The number that a table store is refused with; 0 where it is accepted.
-pub fn store_refusal(r: Registers, buffer: &[u64], words: &[u32], index: u32) -> u32
-    ensures { result ≡ store_refusal
+// Whether a table store is accepted, or what it is refused for.
+pub fn store_refusal(r: Registers, buffer: &[u64], words: &[u32], index: u32) -> Result<(), Refusal>
+    ensures { refusal_number result ≡ store_refusal
         (record { registers = r; buffer = Buffer.Wide buffer.now; words = words.now }) index }
 {
-    let early = registers::machine_refusal(
+    registers::machine_refusal(
         registers::registers_fit(r),
         slots::buffer_fits(buffer),
         page_table::tables_fit(words),
-    );
-    if early != 0 {
-        return early;
-    }
+    )?;
     let index_fits = (index as usize) < words.len();
     if !index_fits {
-        return refusals::INDEX;
+        return Err(Refusal::Index);
     }
-    0
+    Ok(())
 }
 
 // Writes one word of the page tables. The outcome is Done with the number of slots that were emptied.
@@ -162,9 +159,8 @@ pub fn table_store(
         (record { registers = r; buffer = Buffer.Wide buffer.old; words = words.old })
         (record { index = index; value = value }) result (Buffer.Wide buffer.new) words.new }
 {
-    let refusal = store_refusal(r, buffer, words, index);
-    if refusal != 0 {
-        return registers::refused(r, refusal);
+    if let Err(refusal) = store_refusal(r, buffer, words, index) {
+        return registers::refused(r, u32::from(refusal));
     }
     let emptied = rewrite(buffer, words, index, value);
     registers::done(r, emptied)

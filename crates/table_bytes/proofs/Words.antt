@@ -15,12 +15,17 @@ pub words-length : (bytes : List ℕ) → length (words_of bytes) ≡ length byt
 unfolding words_of
 words-length bytes = decoded-length 4 bytes (length bytes / 4)
 
-pub root-inside : (bytes : List ℕ) (root : ℕ) → 256 ≤ length bytes → root ≤ 63 → root < length (words_of bytes)
-root-inside bytes root h k = rw (words-length bytes) (omega arith)
+pub roots_inside : (bytes : List ℕ) → 256 ≤ length bytes → 64 ≤ length (words_of bytes)
+roots_inside bytes h = rw (words-length bytes) (omega arith)
 
 -- a word of the run has its four bytes
 pub word-inside : (bytes : List ℕ) (i : ℕ) → i < length (words_of bytes) → 4 * i + 4 ≤ length bytes
 word-inside bytes i h = let l : i < length bytes / 4 = rw (words-length bytes) at h in omega arith
+
+-- the roots are there after one is written
+pub roots-stay : (bytes after : List ℕ) (i x : ℕ) → 256 ≤ length bytes → i < length (words_of bytes) → after ≡ with_element 4 bytes i x
+    → 64 ≤ length (words_of after)
+roots-stay bytes after i x long h e = roots_inside after (rw (e, with-length 4 bytes i x (word-inside bytes i h)) long)
 
 pub word_stands : (bytes : List ℕ) (i word : ℕ) → i < length (words_of bytes) → word ≡ element_at 4 bytes i → word ≡ get_or (words_of bytes) i 0
 unfolding words_of

@@ -121,20 +121,21 @@ module _ (m₀ : Machine) (number : ℕ) (input out₀ : List ℕ) where
       → at + 49 ≤ length out
   running-room count m out at i r l h = omega (arith, r.short, r.long)
 
-  pub running-fits : (count : ℕ) (m : Machine) (out : List ℕ) (at i : ℕ) → Running count m out at i → 49 * count ≤ length out₀
-      → at ≤ length out
-  running-fits count m out at i r h = omega (arith, r.some, r.short, r.long)
+  -- behind the loop the run is what the text left in it
+  pub running-fits : (count : ℕ) (m : Machine) (out : List ℕ) (at i : ℕ) (after : List ℕ) → Running count m out at i
+      → 49 * count ≤ length out₀ → after ≡ out → at ≤ length after
+  running-fits count m out at i after r h e = rw e (omega (arith, r.some, r.short, r.long))
 
-  pub running-all : (count : ℕ) (registers : Registers) (buffer : Buffer) (words out : List ℕ) (at i : ℕ)
+  pub running-all : (count : ℕ) (registers : Registers) (buffer : Buffer) (words out : List ℕ) (at i : ℕ) (after : List ℕ)
       → count ≡ record_count (length input)
-      → Running count (record { registers = registers; buffer = buffer; words = words }) out at i → count ≤ i
-      → RunGives m₀ number input out₀ (record { registers = registers; length = at }) buffer words out
+      → Running count (record { registers = registers; buffer = buffer; words = words }) out at i → count ≤ i → after ≡ out
+      → RunGives m₀ number input out₀ (record { registers = registers; length = at }) buffer words after
   unfolding commands_of
-  running-all count registers buffer words out at i e r l =
+  running-all count registers buffer words out at i after e r l q =
       let k : i ≡ record_count (length input) = omega (arith, r.some) in
       let done = subst (λ n. TextPut out₀ 0 (lines_of m₀ number (commands_from input 0 n)) at out) k r.put in
       record {
         length-is = done.behind-is ∙ zero-add (length (lines_of m₀ number (commands_from input 0 (record_count (length input)))));
-        lines_are = done.run_is;
+        lines_are = q ∙ done.run_is;
         machine-is = r.machine ∙ ap (λ (n : ℕ). machine_after m₀ (commands_from input 0 n)) k;
       }

@@ -3,7 +3,7 @@ ghost use Rattle.slots.specs.Buffer.{Buffer};
 ghost use Rattle.trace.specs.Steps.{StepGives};
 
 use crate::Command;
-use registers::{Registers, Reply, refusals};
+use registers::{Refusal, Registers, Reply};
 
 // Makes a command's call. A malformed record is refused with number 8.
 pub fn step(r: Registers, buffer: &mut [u64], words: &mut [u32], command: Command) -> Reply
@@ -17,6 +17,6 @@ pub fn step(r: Registers, buffer: &mut [u64], words: &mut [u32], command: Comman
         }
         Command::Store(index, value) => store::table_store(r, buffer, words, index, value),
         Command::Set(number, value) => control::guarded_setting(r, number, value),
-        Command::Malformed => registers::refused(r, refusals::RECORD),
+        Command::Malformed => registers::refused(r, u32::from(Refusal::Record)),
     }
 }

@@ -5,6 +5,7 @@ ghost use Rattle.trace.specs.Commands.{command_at, record_count};
 ghost use Rattle.trace.specs.Traces.{RunGives};
 
 use crate::{Command, Ran};
+use line::Text;
 use registers::Registers;
 
 // The record of an index. A last piece of fewer than eight bytes is cut short, and malformed.
@@ -14,7 +15,7 @@ pub fn command_at(input: &[u8], i: usize) -> Command
     if input.len() / 8 <= i {
         return Command::Malformed;
     }
-    let bits = wire::number_at(input, i);
+    let bits = wire::read::<u64>(input, i);
     crate::command_of(bits)
 }
 
@@ -34,19 +35,20 @@ pub fn run(
         (Buffer.Wide buffer.new) words.new out.new }
     ensures room { result.length ≤ length out.new }
 {
-    let count = (input.len() + 7) / 8;
+    let count = input.len().div_ceil(8);
     let mut registers = r;
-    let mut at: usize = 0;
-    let mut i: usize = 0;
-    while i < count {
+    let mut text = Text {
+        bytes: out,
+        length: 0,
+    };
+    for i in 0..count {
         let command = command_at(input, i);
         let reply = crate::step(registers, buffer, words, command);
-        at = line::put_line(out, at, number + i as u64, reply);
+        line::put_line(&mut text, number + i as u64, reply);
         registers = reply.registers;
-        i += 1;
     }
     Ran {
         registers,
-        length: at,
+        length: text.length,
     }
 }

@@ -29,21 +29,23 @@ lines_fit input before out read number l e h =
     let g : length (take read input) ≡ read = length-take-le read input l in
     (omega (arith, l, g, e, h.0.0, h.0.1), omega (arith, l, g, e, h.0.0, h.1))
 
-module _ (m : Machine) (number read : ℕ) (input before out : List ℕ) (ran : Ran) (buffer : Buffer) (words after : List ℕ)
+module _ (m : Machine) (number read count : ℕ) (input before out : List ℕ) (ran : Ran) (buffer : Buffer) (words after : List ℕ)
     (written : Bool) where
-  pub block-gives : read ≤ length input → length input ≡ length before → length before ≡ BYTES
+  pub block-gives : count ≡ (read + 7) / 8 → read ≤ length input → length input ≡ length before → length before ≡ BYTES
       → RunGives m number (take read input) out ran buffer words after
       → BlockGives m number (record {
         registers = ran.registers;
-        number = number + (read + 7) / 8;
+        number = number + count;
         read = read;
         length = ran.length;
         written = written;
       }) buffer words input after
-  block-gives g e l r = record {
+  block-gives q g e l r = record {
     read_fits = omega (arith, g, e, l);
     machine-is = r.machine-is;
     number_is =
-        ap (λ (k : ℕ). number + (k + 7) / 8) (sym (length-take-le read input g)) ∙ ap (λ (k : ℕ). number + k) (sym (records-of (take read input)));
+        ap (λ (k : ℕ). number + k) q
+        ∙ ap (λ (k : ℕ). number + (k + 7) / 8) (sym (length-take-le read input g))
+        ∙ ap (λ (k : ℕ). number + k) (sym (records-of (take read input)));
     lines_are = begins out (lines_of m number (commands_of (take read input))) ran.length after r.length-is r.lines_are;
   }

@@ -5,11 +5,12 @@ ghost use Rattle.slots.specs.Buffer.{Buffer};
 ghost use Rattle.tracing.specs.Blocks.{BlockGives, LinesFit, LAST};
 
 use crate::Block;
-use crate::reads::fill;
 use registers::Registers;
 use std::io::{Read, Write};
+use streams::fill;
 
-// Reads a block, makes its calls and writes its lines, from a record number on.
+// Reads a block, makes its calls and writes its lines, from a record number on. The four lent runs stay parameters: as a struct, each function
+// would promise besides that the four stay the same, and say no less otherwise.
 pub(crate) fn run_block<R: Read, W: Write>(
     reader: &mut R,
     writer: &mut W,
@@ -27,14 +28,15 @@ pub(crate) fn run_block<R: Read, W: Write>(
     ensures taken { Consumes (R.remaining reader.old) (R.remaining reader.new) (take result.read input.new) }
     ensures put { result.written ≡ true → Appends (W.contents writer.old) (W.contents writer.new) (take result.length out.new) }
 {
-    let read = fill(reader, input);
+    let filled = fill(reader, input);
+    let read = filled.length;
     let ran = trace::run(r, buffer, words, number, &input[..read], out);
     let length = ran.length;
     let registers = ran.registers;
     let written = writer.write_all(&out[..length]).is_ok();
     Block {
         registers,
-        number: number + (read as u64 + 7) / 8,
+        number: number + (read as u64).div_ceil(8),
         read,
         length,
         written,

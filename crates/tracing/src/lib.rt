@@ -2,7 +2,6 @@
 #![tactic(auto)]
 
 mod blocks;
-mod reads;
 mod traces;
 
 use registers::Registers;

@@ -4,20 +4,13 @@ use mathlib.Core.Path.{◌≡◌, refl, sym, subst, ◌∙◌}
 use mathlib.Core.Bool.{Bool, true, false, not, ◌&&◌}
 use mathlib.Core.List.{List}
 use lib.ListN.{length, get_or}
-use lib.Dec.{eqb}
 use borrow.Author.Tests.{eq-eqb, ne_eqb, not-true, not-false}
 use Rattle.page_table.specs.Words.{present, number}
 use Rattle.page_table.specs.Stretches.{stretch_size, broken}
 use Rattle.page_table.specs.Reads.{leads_on}
-use Rattle.reach.specs.Reach.{leads_to}
 use Rattle.reach.proofs.LinkLaws.{leads-fits}
 use Rattle.trees.specs.Trees.{names_table, also_named, has_broken, names_twice, overlaps}
 use Rattle.trees.specs.Trees.{shares_table, meets, meets_root, met, apart, tree_fits}
-
--- a word leads on to a table where it leads on and has that number
-pub leads-at : (len w t : ℕ) (on : Bool) (n : ℕ) → on ≡ leads_on len 0 w → n ≡ number w → on && eqb n t ≡ leads_to len 0 w t
-unfolding leads_to
-leads-at len w t on n leads numbered = rw (leads, numbered)
 
 -- a present word that does not lead on is broken
 pub broken-at : (len levels w : ℕ) (here on : Bool) → here ≡ present w → on ≡ leads_on len levels w

@@ -3,167 +3,143 @@
 #![tactic(auto)]
 
 ghost use Rattle.std.specs.Prelude.{true, ◌≡◌, ◌+◌, ◌*◌, ◌≤◌, ◌<◌, length};
-ghost use Rattle.page_table.specs.Stretches.{ROOTS};
-ghost use Rattle.reach.specs.Reach.{leads_to};
+ghost use Rattle.page_table.specs.Stretches.{ROOTS, stretch};
 ghost use Rattle.trees.specs.Trees.{names_table, also_named, has_broken, names_twice, overlaps};
 ghost use Rattle.trees.specs.Trees.{shares_table, meets, meets_root, met, apart, tree_fits};
 
-// Whether a word leads on to the table of a number, in a run of a length.
-fn leads_to(length: usize, word: u32, table: usize) -> bool
-    ensures { result ≡ leads_to length 0 word table }
-{
-    page_table::leads_on(length, 0, word) & (page_table::number_of(word) == table)
+// A directory that stands in the lent words, by its number.
+#[derive(Clone, Copy)]
+struct Directory<'a> {
+    words: &'a [u32],
+    number: usize,
+    // It is wholly inside the run.
+    ghost inside: { 512 * number + 512 ≤ length words.now },
 }
 
-// Whether one of the first n words of a directory leads on to a table.
-fn names_table(words: &[u32], directory: usize, n: usize, table: usize) -> bool
-    requires { (512 * directory + 512 ≤ length words.now) × (n ≤ 512) }
-    ensures { result ≡ names_table words.now directory n table }
-{
-    let from = page_table::DIRECTORY * directory;
-    let mut j: usize = 0;
-    while j < n {
-        if leads_to(words.len(), words[from + j], table) {
+impl<'a> Directory<'a> {
+    // Its own words.
+    fn own(self) -> &'a [u32]
+        ensures { result.now ≡ stretch self.entry.words.now 512 self.entry.number }
+    {
+        reach::directory(self.words, self.number)
+    }
+
+    // Whether one of its first n words leads on to a table.
+    fn names_table(self, n: usize, table: usize) -> bool
+        requires { n ≤ 512 }
+        ensures { result ≡ names_table self.entry.words.now self.entry.number n table }
+    {
+        let length = self.words.len();
+        self.own()[..n]
+            .iter()
+            .any(|word| reach::leads_to(length, 0, *word, table))
+    }
+
+    // Whether a word leads on to a table that one of its first n words leads on to as well.
+    fn also_named(self, word: u32, n: usize) -> bool
+        requires { n ≤ 512 }
+        ensures { result ≡ also_named self.entry.words.now word self.entry.number n }
+    {
+        if !page_table::leads_on(self.words.len(), 0, word) {
+            return false;
+        }
+        self.names_table(n, page_table::number_of(word))
+    }
+
+    // Whether a word of it is broken.
+    fn has_broken(self) -> bool
+        ensures { result ≡ has_broken self.entry.words.now self.entry.number }
+    {
+        let length = self.words.len();
+        self.own().iter().any(|word| page_table::is_present(*word)
+            & !page_table::leads_on(length, 0, *word))
+    }
+
+    // Whether two words of it lead on to one table.
+    fn names_twice(self) -> bool
+        ensures { result ≡ names_twice self.entry.words.now self.entry.number }
+    {
+        let own = self.own();
+        (0..page_table::DIRECTORY).any(|j| self.also_named(own[j], j))
+    }
+
+    // Whether it stands in the words of one of its tables.
+    fn overlaps(self) -> bool
+        ensures { result ≡ overlaps self.entry.words.now self.entry.number }
+    {
+        self.names_table(page_table::DIRECTORY, self.number / 2)
+    }
+
+    // Whether a table of another directory is one of its own.
+    fn shares_table(self, other: usize) -> bool
+        requires { 512 * other + 512 ≤ length self.words.now }
+        ensures { result ≡ shares_table self.entry.words.now self.entry.number other }
+    {
+        reach::directory(self.words, other)
+            .iter()
+            .any(|word| self.also_named(*word, page_table::DIRECTORY))
+    }
+
+    // Whether a word of it or of its tables lies in another directory or in one of its tables.
+    fn meets(self, other: usize) -> bool
+        requires { 512 * other + 512 ≤ length self.words.now }
+        ensures { result ≡ meets self.entry.words.now self.entry.number other }
+    {
+        if self.number == other {
             return true;
         }
-        j += 1;
-    }
-    false
-}
-
-// Whether a word leads on to a table that one of the first n words of a directory leads on to as well.
-fn also_named(words: &[u32], word: u32, directory: usize, n: usize) -> bool
-    requires { (512 * directory + 512 ≤ length words.now) × (n ≤ 512) }
-    ensures { result ≡ also_named words.now word directory n }
-{
-    if !page_table::leads_on(words.len(), 0, word) {
-        return false;
-    }
-    names_table(words, directory, n, page_table::number_of(word))
-}
-
-// Whether a word of a directory is broken.
-fn has_broken(words: &[u32], directory: usize) -> bool
-    requires { 512 * directory + 512 ≤ length words.now }
-    ensures { result ≡ has_broken words.now directory }
-{
-    let from = page_table::DIRECTORY * directory;
-    let mut j: usize = 0;
-    while j < page_table::DIRECTORY {
-        let word = words[from + j];
-        if page_table::is_present(word) & !page_table::leads_on(words.len(), 0, word) {
+        if self.names_table(page_table::DIRECTORY, other / 2) {
             return true;
         }
-        j += 1;
-    }
-    false
-}
-
-// Whether two words of a directory lead on to one table.
-fn names_twice(words: &[u32], directory: usize) -> bool
-    requires { 512 * directory + 512 ≤ length words.now }
-    ensures { result ≡ names_twice words.now directory }
-{
-    let from = page_table::DIRECTORY * directory;
-    let mut j: usize = 0;
-    while j < page_table::DIRECTORY {
-        if also_named(words, words[from + j], directory, j) {
+        let beside = Directory {
+            words: self.words,
+            number: other,
+        };
+        if beside.names_table(page_table::DIRECTORY, self.number / 2) {
             return true;
         }
-        j += 1;
+        self.shares_table(other)
     }
-    false
-}
 
-// Whether a directory stands in the words of one of its tables.
-fn overlaps(words: &[u32], directory: usize) -> bool
-    requires { 512 * directory + 512 ≤ length words.now }
-    ensures { result ≡ overlaps words.now directory }
-{
-    names_table(words, directory, page_table::DIRECTORY, directory / 2)
-}
-
-// Whether a table of another directory is one of a directory's own.
-fn shares_table(words: &[u32], directory: usize, other: usize) -> bool
-    requires { (512 * directory + 512 ≤ length words.now) × (512 * other + 512 ≤ length words.now) }
-    ensures { result ≡ shares_table words.now directory other }
-{
-    let from = page_table::DIRECTORY * other;
-    let mut j: usize = 0;
-    while j < page_table::DIRECTORY {
-        if also_named(words, words[from + j], directory, page_table::DIRECTORY) {
-            return true;
+    // Whether a word of it or of its tables lies in a stretch that a root reaches, another one than the identification's own.
+    fn meets_root(self, id: u32, root: u32) -> bool
+        requires { (ROOTS ≤ length self.words.now) × (root < 64) }
+        ensures { result ≡ meets_root self.entry.words.now id self.entry.number root }
+    {
+        if root == id {
+            return false;
         }
-        j += 1;
-    }
-    false
-}
-
-// Whether a word of a directory or of its tables lies in another directory or in one of its tables.
-fn meets(words: &[u32], directory: usize, other: usize) -> bool
-    requires { (512 * directory + 512 ≤ length words.now) × (512 * other + 512 ≤ length words.now) }
-    ensures { result ≡ meets words.now directory other }
-{
-    if directory == other {
-        return true;
-    }
-    if names_table(words, directory, page_table::DIRECTORY, other / 2) {
-        return true;
-    }
-    if names_table(words, other, page_table::DIRECTORY, directory / 2) {
-        return true;
-    }
-    shares_table(words, directory, other)
-}
-
-// Whether a word of the identification's directory or of its tables lies in a stretch that a root reaches, another one than its own.
-fn meets_root(words: &[u32], id: u32, directory: usize, root: u32) -> bool
-    requires { (512 * directory + 512 ≤ length words.now) × (ROOTS ≤ length words.now) × (root < 64) }
-    ensures { result ≡ meets_root words.now id directory root }
-{
-    if root == id {
-        return false;
-    }
-    let word = words[root as usize];
-    if !page_table::leads_on(words.len(), 1, word) {
-        return false;
-    }
-    meets(words, directory, page_table::number_of(word))
-}
-
-// How many roots there are.
-const ROOTS: u32 = 64;
-
-// Whether such a word lies in a stretch that any other root reaches, the global root too.
-fn is_met(words: &[u32], id: u32, directory: usize) -> bool
-    requires { (512 * directory + 512 ≤ length words.now) × (ROOTS ≤ length words.now) }
-    ensures { result ≡ met words.now id directory }
-{
-    let mut root: u32 = 0;
-    while root < ROOTS {
-        if meets_root(words, id, directory, root) {
-            return true;
+        let word = self.words[root as usize];
+        if !page_table::leads_on(self.words.len(), 1, word) {
+            return false;
         }
-        root += 1;
+        self.meets(page_table::number_of(word))
     }
-    false
-}
 
-// Whether the tree of the identification's directory stands by itself.
-fn stands_apart(words: &[u32], id: u32, directory: usize) -> bool
-    requires { (512 * directory + 512 ≤ length words.now) × (ROOTS ≤ length words.now) }
-    ensures { result ≡ apart words.now id directory }
-{
-    if has_broken(words, directory) {
-        return false;
+    // Whether such a word lies in a stretch that any other root reaches, the global root too.
+    fn is_met(self, id: u32) -> bool
+        requires { ROOTS ≤ length self.words.now }
+        ensures { result ≡ met self.entry.words.now id self.entry.number }
+    {
+        (0..reach::ROOTS).any(|root| self.meets_root(id, root))
     }
-    if names_twice(words, directory) {
-        return false;
+
+    // Whether the tree of the identification's directory stands by itself.
+    fn stands_apart(self, id: u32) -> bool
+        requires { ROOTS ≤ length self.words.now }
+        ensures { result ≡ apart self.entry.words.now id self.entry.number }
+    {
+        if self.has_broken() {
+            return false;
+        }
+        if self.names_twice() {
+            return false;
+        }
+        if self.overlaps() {
+            return false;
+        }
+        !self.is_met(id)
     }
-    if overlaps(words, directory) {
-        return false;
-    }
-    !is_met(words, id, directory)
 }
 
 // Whether the tree of an identification stands by itself: an absent root has none to judge, a broken one never does.
@@ -178,5 +154,9 @@ pub fn tree_fits(words: &[u32], id: u32) -> bool
     if !page_table::leads_on(words.len(), 1, root) {
         return false;
     }
-    stands_apart(words, id, page_table::number_of(root))
+    let directory = Directory {
+        words,
+        number: page_table::number_of(root),
+    };
+    directory.stands_apart(id)
 }

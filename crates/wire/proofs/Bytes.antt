@@ -1,15 +1,16 @@
 -- Laws of a number's bytes, over their count. Assumes nothing.
 use Prim.Native.Nat.{ℕ, zero, suc, ◌+◌, ◌*◌, ◌/◌, ◌%◌, ◌^◌, ◌≤◌, ◌<◌}
-use mathlib.Core.Path.{◌≡◌, refl, sym, ap₂, ◌∙◌}
+use mathlib.Core.Path.{◌≡◌, refl, sym, ap, ap₂, ◌∙◌}
 use mathlib.Core.Logic.{⊎_elim}
 use mathlib.Core.List.{List, [], ◌∷◌, ◌++◌}
-use native.Mathlib.Nat.{zero-add, add-zero, add-suc, add_assoc, mul_assoc, pow-zero}
-use native.Mathlib.Nat.{pow-suc, lt-suc_self, not-suc-le-zero, le_of_suc-le-suc, eq-or-lt_of_le}
+use native.Mathlib.Nat.{zero-add}
+use native.Mathlib.Nat.{pow-suc, pow-succ', div-div-eq-div-mul, lt-suc_self, not-suc-le-zero, le_of_suc-le-suc, eq-or-lt_of_le}
 use native.Mathlib.Numerals.{add-one}
 use native.Mathlib.Omega.{arith}
 use lib.ListN.{length, get_or, length-append, get_or-append}
 use lib.Seq.{get_or_at}
-use Rattle.wire.specs.Wire.{bytes_of, number_at, element_at, AreBytes}
+use Rattle.std.specs.Int.{byte_at, bytes_high_first}
+use Rattle.wire.specs.Wire.{bytes_of, number_at, AreBytes}
 
 -- w bytes are w
 pub wide : (w x : ℕ) → length (bytes_of w x) ≡ w
@@ -22,25 +23,6 @@ pub number-agrees : (a b : List ℕ) (p q w : ℕ) → ((j : ℕ) → j < w → 
 unfolding number_at
 number-agrees a b p q zero h = refl
 number-agrees a b p q (suc w) h = ap₂ (λ (n d : ℕ). n * 256 + d) (number-agrees a b p q w (λ j l. h j (omega arith))) (h w (lt-suc_self w))
-
--- v bytes and the w behind them
-pub number-joins : (bytes : List ℕ) (at v w : ℕ) → number_at v bytes at * 256 ^ w + number_at w bytes (at + v) ≡ number_at (v + w) bytes at
-unfolding number_at
-number-joins bytes at v zero = rw (add-zero v, pow-zero) (omega arith)
-number-joins bytes at v (suc w) =
-    let n = number_at v bytes at in
-    let e = number-joins bytes at v w in
-    let p : n * (256 ^ w * 256) ≡ n * 256 ^ w * 256 = sym (mul_assoc n (256 ^ w) 256) in
-    rw (add-suc, pow-suc, p, add_assoc at v w) (omega arith)
-
--- a number of eight bytes from its two words
-pub halves : (bytes : List ℕ) (i high low : ℕ) → high ≡ element_at 4 bytes (2 * i) → low ≡ element_at 4 bytes (2 * i + 1)
-    → high * 4294967296 + low ≡ element_at 8 bytes i
-unfolding element_at
-halves bytes i high low h l =
-    let a : 4 * (2 * i) ≡ 8 * i = omega arith in
-    let b : 4 * (2 * i + 1) ≡ 8 * i + 4 = omega arith in
-    rw (h, l, a, b) (number-joins bytes (8 * i) 4 4)
 
 -- a number within w bytes is the number of its bytes
 pub number-of-bytes : (w x : ℕ) → x < 256 ^ w → number_at w (bytes_of w x) 0 ≡ x
@@ -90,3 +72,21 @@ bytes-of-number bytes at (suc w) r h j l =
 
     before : j < w → get_or (bytes_of w n) j 0 ≡ get_or bytes (at + j) 0 → get_or (bytes_of w n ++ (byte ∷ [])) j 0 ≡ get_or bytes (at + j) 0
     before k e = get_or-append (bytes_of w n) (byte ∷ []) 0 j (rw (wide w n) k) ∙ e
+
+-- byte w of what is left of a number, and w bytes with the one before them
+byte-up : (w x : ℕ) → byte_at w (x / 256) ≡ byte_at (suc w) x
+byte-up zero x = refl
+byte-up (suc w) x = ap (λ (n : ℕ). n % 256) (div-div-eq-div-mul x 256 (256 ^ suc w) ∙ ap (λ (n : ℕ). x / n) (sym (pow-succ' 256 (suc w))))
+
+byte-before : (w x : ℕ) → byte_at w x ∷ bytes_of w x ≡ bytes_of (suc w) x
+unfolding bytes_of
+byte-before zero x = refl
+byte-before (suc w) x =
+    ap (λ (b : ℕ). b ∷ (bytes_of w (x / 256) ++ (x % 256 ∷ []))) (sym (byte-up w x))
+    ∙ ap (λ (l : List ℕ). l ++ (x % 256 ∷ [])) (byte-before w (x / 256))
+
+-- the bytes that std lists, the highest first, are the number's
+pub high-first : (w x : ℕ) → bytes_high_first w x ≡ bytes_of w x
+unfolding bytes_of
+high-first zero x = refl
+high-first (suc w) x = ap (λ (l : List ℕ). byte_at w x ∷ l) (high-first w x) ∙ byte-before w x

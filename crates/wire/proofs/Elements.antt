@@ -9,10 +9,10 @@ use native.Mathlib.Omega.{arith}
 use lib.ListN.{length, get_or, set, take, drop, length-set, get_or-append}
 use lib.Seq.{drop_at, drop-drop, take-append-add, drop-append-add, get_or-append-add, get_or-take}
 use lib.Seq.{get_or-drop, get_or-set_same, get_or-set_other, length-take-le, ext_get_or}
-use borrow.Rule.Slice.PartMut.{put_mid, mid_of, same_len_mid}
+use borrow.Rule.Slice.PartMut.{put_mid, same_len_mid}
 use Rattle.runs.specs.Pieces.{flat}
 use Rattle.runs.proofs.Pieces.{tab-length, tab-at, mid-front, flat-length}
-use Rattle.wire.specs.Wire.{bytes_of, element_at, with_element, encoded, decoded}
+use Rattle.wire.specs.Wire.{bytes_of, number_at, element_at, with_element, encoded, decoded}
 use Rattle.wire.proofs.Bytes.{wide, number-agrees, number-of-bytes}
 
 apart : (a b : ℕ) → (a ≡ b → ⊥) → (a < b) ⊎ (b < a)
@@ -40,13 +40,20 @@ pub with-mid : (w : ℕ) (bytes : List ℕ) (i x : ℕ) → with_element w bytes
 unfolding with_element
 with-mid w bytes i x = rw (drop-drop w (w * i) bytes)
 
--- a stretch of w bytes that has become a number's
-pub with-stretch : (w : ℕ) (bytes part : List ℕ) (i x from to : ℕ) → w * i + w ≤ length bytes → from ≡ w * i → to ≡ from + w
-    → part ≡ bytes_of (length (mid_of from (to - from) bytes)) x → put_mid from (to - from) bytes part ≡ with_element w bytes i x
-with-stretch w bytes part i x from to h f t p =
-    let k : to - from ≡ w = omega arith in
-    let piece : length (mid_of from (to - from) bytes) ≡ w = mid-front bytes from (to - from) (rw (k, f) h) ∙ k in
-    rw (p, piece, k, f, with-mid w bytes i x)
+-- the stretch of an index as the code finds it, whose bounds are two readings of the width: its bytes written, and its number
+pub with-stretch : (w : ℕ) (bytes part : List ℕ) (i x s t : ℕ) → s ≡ w → t ≡ w → part ≡ bytes_of w x
+    → put_mid (s * i) (s * i + t - s * i) bytes part ≡ with_element w bytes i x
+with-stretch w bytes part i x s t h k p = let e : s * i + t - s * i ≡ w = omega arith in rw (p, e, h, with-mid w bytes i x)
+
+pub of-stretch : (w : ℕ) (bytes : List ℕ) (i n s t : ℕ) → s ≡ w → t ≡ w
+    → n ≡ number_at w (take (s * i + t - s * i) (drop (s * i) bytes)) 0 → n ≡ element_at w bytes i
+unfolding element_at
+of-stretch w bytes i n s t h k e =
+    e
+    ∙ number-agrees (take (s * i + t - s * i) (drop (s * i) bytes)) bytes 0 (w * i) w
+    (λ j l.
+    rw (zero-add j, ← h)
+    (get_or-take (s * i + t - s * i) (drop (s * i) bytes) j 0 (omega arith) ∙ get_or-drop (s * i) bytes j 0))
 
 -- the bytes before, in and behind the number that is written
 module _ (w : ℕ) (bytes : List ℕ) (i x : ℕ) (inside : w * i + w ≤ length bytes) where

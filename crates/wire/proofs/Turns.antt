@@ -1,91 +1,18 @@
 -- The turns of the loops that read and write bytes. Assumes nothing.
-use Prim.Native.Nat.{ℕ, suc, ◌+◌, ◌-◌, ◌*◌, ◌/◌, ◌%◌, ◌^◌, ◌≤◌, ◌<◌}
+use Prim.Native.Nat.{ℕ, suc, ◌+◌, ◌*◌, ◌≤◌, ◌<◌}
 use mathlib.Core.Path.{◌≡◌, refl, sym, ap, ◌∙◌}
 use mathlib.Core.Logic.{⊎_elim}
-use mathlib.Core.List.{List, [], ◌∷◌, ◌++◌, append_assoc, append-nil}
-use native.Mathlib.Nat.{pow-suc, pow-le-pow_right, le_of_suc-le-suc, eq-or-lt_of_le, zero-add, mul-zero, mul-suc, mul_comm, mul-le-mul_left}
+use mathlib.Core.List.{List, ◌++◌}
+use native.Mathlib.Nat.{le_of_suc-le-suc, eq-or-lt_of_le, zero-add, mul-zero, mul-suc, mul_comm, mul-le-mul_left}
 use native.Mathlib.Numerals.{add-one}
 use native.Mathlib.Omega.{arith}
-use lib.ListN.{length, get_or, set, take, drop, length-set, drop_of_length-le}
-use lib.Seq.{drop-cons, drop-set-lt, get_or-set_same, get_or-set_other, ext_get_or}
+use lib.ListN.{length, get_or, set, take, drop, length-set}
+use lib.Seq.{get_or-set_same, get_or-set_other, ext_get_or}
 use Rattle.runs.specs.Pieces.{tabulate, flat}
 use Rattle.runs.proofs.Pieces.{tab-length, tab-at, flat-more, flat-all}
-use Rattle.wire.specs.Wire.{bytes_of, number_at, with_element}
+use Rattle.wire.specs.Wire.{bytes_of, with_element}
 use Rattle.wire.proofs.Bytes.{wide}
 use Rattle.wire.proofs.Elements.{with-mid}
-
--- a loop that reads the w bytes at an index, most significant first: `left` are not read yet, and n is the number of the others
-module _ (bytes : List ℕ) (at w : ℕ) where
-  pub record Read (n left : ℕ) : Type 0 where
-    pub some : left ≤ w
-    pub number : n ≡ number_at (w - left) bytes at
-    pub within : n < 256 ^ (w - left)
-
-  pub read_none : Read 0 w
-  unfolding number_at
-  read_none = let e : w - w ≡ 0 = omega arith in record { some = omega arith; number = rw e; within = rw e (omega arith) }
-
-  pub read_more : (n left byte : ℕ) → Read n left → 0 < left → byte ≡ get_or bytes (at + (w - 1 - (left - 1))) 0 → byte < 256
-      → Read (n * 256 + byte) (left - 1)
-  unfolding number_at
-  read_more n left byte r l e b =
-      let next : w - (left - 1) ≡ suc (w - left) = omega (arith, r.some) in
-      let place : w - 1 - (left - 1) ≡ w - left = omega (arith, r.some) in
-      record {
-        some = omega (arith, r.some);
-        number = rw (next, e, place, r.number);
-        within = rw (next, pow-suc) (omega (arith, r.within));
-      }
-
-  pub read-room : (n left : ℕ) → Read n left → 0 < left → n < 256 ^ (w - 1)
-  read-room n left r l =
-      let k : w - left ≤ w - 1 = omega (arith, r.some) in
-      let p : 256 ^ (w - left) ≤ 256 ^ (w - 1) = pow-le-pow_right (omega arith) k in
-      omega (arith, r.within)
-
-  pub read_all : (n left : ℕ) → Read n left → left ≤ 0 → (n ≡ number_at w bytes at) × (n < 256 ^ w)
-  read_all n left r l = let e : w - left ≡ w = omega arith in (rw e at r.number, rw e at r.within)
-
--- a loop that writes the w bytes of x, the least significant first: `done` are written, and `rest` is what they leave of x
-module _ (w x : ℕ) where
-  pub record Written (bytes : List ℕ) (rest done : ℕ) : Type 0 where
-    pub some : done ≤ w
-    pub long : length bytes ≡ w
-    pub same : bytes_of w x ≡ bytes_of (w - done) rest ++ drop (w - done) bytes
-
-  pub written_none : (bytes : List ℕ) → length bytes ≡ w → Written bytes x 0
-  written_none bytes e =
-      let k : w - 0 ≡ w = omega arith in
-      record {
-        some = omega arith;
-        long = e;
-        same = rw (k, drop_of_length-le bytes {i = w} (omega arith), append-nil (bytes_of w x));
-      }
-
-  pub written-more : (bytes : List ℕ) (rest done place : ℕ) → Written bytes rest done → done < w → place ≡ w - 1 - done
-      → Written (set bytes place (rest % 256)) (rest / 256) (done + 1)
-  unfolding bytes_of
-  written-more bytes rest done place r l e =
-      let now : w - done ≡ suc place = omega arith in
-      let next : w - (done + 1) ≡ place = omega arith in
-      let here : place < length bytes = omega (arith, r.long) in
-      record {
-        some = omega arith;
-        long = simp length-set r.long;
-        same =
-            r.same
-            ∙ rw (now, next, tail bytes place (rest % 256) here)
-            (append_assoc (bytes_of place (rest / 256)) (rest % 256 ∷ []) (drop (suc place) bytes));
-      }
-    where
-      tail : (bytes : List ℕ) (k v : ℕ) → k < length bytes → drop k (set bytes k v) ≡ v ∷ drop (suc k) bytes
-      tail bytes k v h =
-          drop-cons (set bytes k v) k 0 (simp length-set h)
-          ∙ rw (get_or-set_same bytes k v 0 h, drop-set-lt (suc k) bytes k v (omega arith))
-
-  pub written_all : (bytes : List ℕ) (rest done : ℕ) → Written bytes rest done → w ≤ done → bytes ≡ bytes_of w x
-  unfolding bytes_of
-  written_all bytes rest done r l = let e : w - done ≡ 0 = omega arith in sym (rw e at r.same)
 
 -- a loop that fills a run by its index: the elements below i are f's
 module _ (f : ℕ → ℕ) where

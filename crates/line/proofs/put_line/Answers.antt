@@ -1,35 +1,27 @@
-use Rattle.line.specs.Text.{ascii}
 use native.Mathlib.Omega.{arith}
+use Rattle.line.specs.Text.{ascii}
 use Rattle.line.proofs.LineLaws.{space-room, loads-room, end-room, line-put, line-room}
 use Rattle.line.proofs.put_line.Goals as goal
 
-pub put_text-loads-requires : goal.put_text-loads-requires
-put_text-loads-requires c = space-room _ _ _ c.args.reply
-    c.requires (omega arith) (omega arith) _ _
-    c.put_head-space.ensures
+pub put-requires : goal.put-requires
+put-requires c = space-room _ _ _ c.args.reply c.requires (omega arith) (omega arith) _ _ c.put_head.ensures.head
 
-pub put_decimal-end-requires : goal.put_decimal-end-requires
+pub put_decimal-requires : goal.put_decimal-requires
 unfolding ascii
-put_decimal-end-requires c = loads-room _ _ _
-    c.args.reply
-    c.requires (omega arith) (omega arith) _ _
-    c.put_head-space.ensures _ _
-    c.put_text-loads.ensures
+put_decimal-requires c =
+    loads-room _ _ _ c.args.reply c.requires (omega arith) (omega arith) _ _ c.put_head.ensures.head _ _ c.put.ensures.grows
 
-pub put_text-requires : goal.put_text-requires
+pub put-requires-2 : goal.put-requires-2
 unfolding ascii
-put_text-requires c = end-room _ _ _
-    c.args.reply
-    c.requires (omega arith)
-    (omega arith) _ _ c.put_head-space.ensures _ _
-    c.put_text-loads.ensures _ _
-    c.put_decimal-end.ensures
+put-requires-2 c =
+    end-room _ _ _ c.args.reply c.requires (omega arith) (omega arith) _ _ c.put_head.ensures.head _ _ c.put.ensures.grows _ _
+    c.put_decimal.ensures.grows
 
-pub returns : goal.returns
+pub returns-clause-line : goal.returns-clause-line
 unfolding ascii
-returns c = let p = line-put _ _ _
-    c.args.reply
-    c.requires (omega arith)
-    (omega arith) _ _ c.put_head-space.ensures _ _
-    c.put_text-loads.ensures _ _
-    c.put_decimal-end.ensures _ _ c.put_text.ensures in record { line = p; room = line-room _ _ _ c.args.reply _ _ (omega arith) (omega arith) p }
+returns-clause-line c =
+    line-put _ _ _ c.args.reply c.requires (omega arith) (omega arith) _ _ c.put_head.ensures.head _ _ c.put.ensures.grows _ _
+    c.put_decimal.ensures.grows _ _ c.put-2.ensures.grows
+
+pub returns-clause-room : goal.returns-clause-room
+returns-clause-room c = line-room _ _ _ c.args.reply _ _ (omega arith) (omega arith) (returns-clause-line c)

@@ -4,22 +4,18 @@ use Rattle.line.specs.Lines.{word_of}
 use Rattle.line.proofs.LineLaws.{word-put}
 use Rattle.line.proofs.put_word.Goals as goal
 
-pub returns-in-At : goal.returns-in-At
+pub returns-in-At-clause-word : goal.returns-in-At-clause-word
 unfolding word_of ascii
-returns-in-At c = word-put _ _ _ _ _ _ (ap word_of c.in-At.is)
-    c.put_text.ensures
+returns-in-At-clause-word c = word-put _ _ _ _ _ _ (ap word_of c.in-At.is) c.put.ensures.grows
 
-pub returns-in-Fault : goal.returns-in-Fault
+pub returns-in-Fault-clause-word : goal.returns-in-Fault-clause-word
 unfolding word_of ascii
-returns-in-Fault c = word-put _ _ _ _ _ _ (ap word_of c.in-Fault.is)
-    c.put_text-in-Fault.ensures
+returns-in-Fault-clause-word c = word-put _ _ _ _ _ _ (ap word_of c.in-Fault.is) c.put-in-Fault.ensures.grows
 
-pub returns-in-Done : goal.returns-in-Done
+pub returns-in-Done-clause-word : goal.returns-in-Done-clause-word
 unfolding word_of ascii
-returns-in-Done c = word-put _ _ _ _ _ _ (ap word_of c.in-Done.is)
-    c.put_text-in-Done.ensures
+returns-in-Done-clause-word c = word-put _ _ _ _ _ _ (ap word_of c.in-Done.is) c.put-in-Done.ensures.grows
 
-pub returns-in-Refused : goal.returns-in-Refused
+pub returns-in-Refused-clause-word : goal.returns-in-Refused-clause-word
 unfolding word_of ascii
-returns-in-Refused c = word-put _ _ _ _ _ _ (ap word_of c.in-Refused.is)
-    c.put_text-in-Refused.ensures
+returns-in-Refused-clause-word c = word-put _ _ _ _ _ _ (ap word_of c.in-Refused.is) c.put-in-Refused.ensures.grows

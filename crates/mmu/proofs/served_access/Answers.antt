@@ -1,13 +1,15 @@
-use mathlib.Core.Path.{sym, ◌∙◌}
+use Rattle.registers.proofs.RefusalLaws.{refused-ne0}
+use Rattle.registers.specs.Replies.{refused}
+use mathlib.Core.Path.{refl, ap, sym, ◌∙◌}
 use Rattle.mmu.proofs.ServedLaws.{served-accepted, served-refused, served-done}
 use Rattle.mmu.proofs.served_access.Goals as goal
 
-pub returns-then-number-ne0 : goal.returns-then-number-ne0
-returns-then-number-ne0 c = served-refused _ _ _ c.served_refusal-number.ensures _ c.if-number-ne0.true c.refused.ensures
+pub returns-in-Err : goal.returns-in-Err
+returns-in-Err c = served-refused _ _ _ c.in-Err.ensures _ (refused-ne0 _) (c.refused.ensures ∙ ap (refused _) c.from.ensures)
 
 pub serve-requires : goal.serve-requires
-serve-requires c = served-accepted _ _ (sym c.served_refusal-number.ensures ∙ c.if-number-ne0.false)
+serve-requires c = served-accepted _ _ (sym c.in_default.ensures)
 
 pub returns : goal.returns
-returns c = served-done _ _ _ c.served_refusal-number.ensures _ _
-    c.if-number-ne0.false c.serve.ensures
+returns c = served-done _ _ _ c.in_default.ensures _ _
+    refl c.serve.ensures

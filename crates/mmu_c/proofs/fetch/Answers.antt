@@ -6,20 +6,20 @@ use Rattle.mmu_c.proofs.fetch.Goals as goal
 pub loop-set-init : goal.loop-set-init
 loop-set-init c = fetch-none _ _ _ c.requires.1
 
-pub number_at-requires : goal.number_at-requires
-number_at-requires c = let l = slot-inside _ _ _ c.slot_of-slot.ensures c.loop-set-test.true in omega
+pub read-requires : goal.read-requires
+read-requires c = let l = slot-inside _ _ _ c.slot_of-slot.ensures (omega arith) in omega
     (arith, c.requires.0)
 
 pub offset_bounds-slots-slot : goal.offset_bounds-slots-slot
-offset_bounds-slots-slot c = let l = slot-inside _ _ _ c.slot_of-slot.ensures c.loop-set-test.true in omega arith
+offset_bounds-slots-slot c = let l = slot-inside _ _ _ c.slot_of-slot.ensures (omega arith) in omega arith
 
 pub bounds-slots-slot : goal.bounds-slots-slot
-bounds-slots-slot c = let l = slot-inside _ _ _ c.slot_of-slot.ensures c.loop-set-test.true in omega
+bounds-slots-slot c = let l = slot-inside _ _ _ c.slot_of-slot.ensures (omega arith) in omega
     (arith, c.loop-set.invariant.long)
 
 pub loop-set-preserved : goal.loop-set-preserved
-loop-set-preserved c = fetch-more _ _ _ _ _ _ c.loop-set.invariant c.loop-set-test.true
-    c.slot_of-slot.ensures c.number_at.ensures.number c.number_at.ensures.bytes
+loop-set-preserved c = fetch-more _ _ _ _ _ _ c.loop-set.invariant (omega arith)
+    c.slot_of-slot.ensures c.read.ensures.number c.read.ensures.bytes
 
 pub shape_of-slots : goal.shape_of-slots
 shape_of-slots c = c.loop-set.invariant.long ∙ sym c.requires.1

@@ -5,4 +5,4 @@ use Rattle.mmu_c.proofs.put_registers.Goals as goal
 
 pub returns : goal.returns
 unfolding register_bytes
-returns c = c.encode32.ensures ∙ ap (encoded 4) c.to_words-words.ensures
+returns c = c.encode.ensures ∙ ap (encoded 4) c.to_words-words.ensures

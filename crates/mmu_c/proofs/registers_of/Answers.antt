@@ -5,4 +5,4 @@ use Rattle.mmu_c.proofs.registers_of.Goals as goal
 
 pub returns-clause-registers : goal.returns-clause-registers
 unfolding registers_of
-returns-clause-registers c = c.from_words.ensures ∙ ap from_words c.decode32.ensures
+returns-clause-registers c = c.from_words.ensures ∙ ap from_words c.decode.ensures

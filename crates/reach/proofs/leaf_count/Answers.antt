@@ -1,40 +1,28 @@
-use native.Mathlib.Omega.{arith}
-use Rattle.reach.specs.Index.{table_count}
-use Rattle.reach.proofs.PresentLaws.{counted_none, counted-more, counted_skip}
-use Rattle.reach.proofs.PresentLaws.{counted-le, counted-all, index-inside, presents-le}
+use Rattle.std.proofs.Common.{refl, arith}
+use Rattle.std.proofs.lemmas.List.{length-append}
+use Rattle.std.proofs.lemmas.Slice.Zip.{zip_turn, zip_end}
+use Rattle.reach.proofs.PresentLaws.{counted_none, turn_more, turn-skip, turn_fits, turn-end}
 use Rattle.reach.proofs.leaf_count.Goals as goal
 
-pub loop-t-init : goal.loop-t-init
-loop-t-init c = counted_none _
-
-pub overflow_add-t : goal.overflow_add-t
-unfolding table_count
-overflow_add-t c = omega (arith, c.loop-t.invariant.some)
-
-pub bounds-links-at : goal.bounds-links-at
-unfolding table_count
-bounds-links-at c = (index-inside _ _ _ c.requires.0 c.requires.1 c.loop-t.t (omega arith)).0
-
-pub bounds-presents-at : goal.bounds-presents-at
-unfolding table_count
-bounds-presents-at c = (index-inside _ _ _ c.requires.0 c.requires.1 c.loop-t.t (omega arith)).1
+pub loop-link-init : goal.loop-link-init
+loop-link-init c = counted_none _
 
 pub overflow_add-leaves : goal.overflow_add-leaves
-unfolding table_count
-overflow_add-leaves c = let small = counted-le _ _ _ c.requires.0 c.requires.1 _ _ c.loop-t.invariant in
-    let few = presents-le _ _ _ c.requires.0 c.requires.1 c.loop-t.t (omega arith) in
-    omega arith
+overflow_add-leaves c =
+    let at = zip_turn _ c.args.presents.now _ _ _ c.next.new.self _ refl (cc) c.loop-link.yielded_by _ c.in-Some.is c.next.ensures.steps in
+    omega (arith, turn_fits _ _ _ c.requires.0 c.requires.1 _ _ _ c.loop-link.invariant at.1 (at.3 0))
 
-pub loop-t-preserved-then-links-at-ne0 : goal.loop-t-preserved-then-links-at-ne0
-unfolding table_count
-loop-t-preserved-then-links-at-ne0 c = counted-more _ _ _ c.requires.0 c.requires.1 _ _ c.loop-t.invariant
-    (omega arith) c.if-links-at-ne0.true
+pub loop-link-preserved-then-link-ne0 : goal.loop-link-preserved-then-link-ne0
+loop-link-preserved-then-link-ne0 c =
+    let at = zip_turn c.args.links.now c.args.presents.now _ _ _ c.next.new.self _ (cc) (cc) c.loop-link.yielded_by _ c.in-Some.is c.next.ensures.steps in
+    simp length-append (turn_more _ _ _ c.requires.0 c.requires.1 _ _ _ c.loop-link.invariant at.0 (at.3 0) _ (at.2 0) c.if-link-ne0.true)
 
-pub loop-t-preserved : goal.loop-t-preserved
-unfolding table_count
-loop-t-preserved c = counted_skip _ _ _ c.requires.0 c.requires.1 _ _ c.loop-t.invariant
-    (omega arith) c.if-links-at-ne0.false
+pub loop-link-preserved : goal.loop-link-preserved
+loop-link-preserved c =
+    let at = zip_turn c.args.links.now c.args.presents.now _ _ _ c.next.new.self _ (cc) (cc) c.loop-link.yielded_by _ c.in-Some.is c.next.ensures.steps in
+    simp length-append (turn-skip _ _ _ c.requires.0 c.requires.1 _ _ c.loop-link.invariant at.0 _ (at.2 0) c.if-link-ne0.false)
 
 pub returns : goal.returns
-unfolding table_count
-returns c = counted-all _ _ _ c.requires.0 c.requires.1 _ _ c.loop-t.invariant (omega arith)
+returns c =
+    turn-end _ _ _ c.requires.0 c.requires.1 _ _ c.loop-link.invariant
+    (zip_end c.args.links.now c.args.presents.now _ _ _ c.next.new.self _ (cc) (cc) c.loop-link.yielded_by c.in-None.is c.next.ensures.steps)

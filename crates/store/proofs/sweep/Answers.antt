@@ -5,33 +5,33 @@ use Rattle.store.proofs.KeptLaws.{entry_lt, sweep-begin, sweep-fits, sweep-turn,
 use Rattle.store.proofs.sweep.Goals as goal
 
 pub loop-slot-init : goal.loop-slot-init
-loop-slot-init c = sweep-begin _ _
+loop-slot-init g c = sweep-begin _ _
 
 pub slot_at-e-requires : goal.slot_at-e-requires
-slot_at-e-requires c = let so_far = c.loop-slot.invariant in
+slot_at-e-requires g c = let so_far = c.loop-slot.invariant in
     (sweep-fits _ _ _ _ _ so_far c.requires.0, omega arith)
 
 pub kept-keep-requires : goal.kept-keep-requires
-kept-keep-requires c = (c.requires.1, omega arith, entry_lt _ _ _ c.slot_at-e.ensures)
+kept-keep-requires g c = (c.requires.1, omega arith, entry_lt _ _ _ c.slot_at-e.ensures)
 
 pub settle-emptied-requires : goal.settle-emptied-requires
-settle-emptied-requires c = let so_far = c.loop-slot.invariant in
+settle-emptied-requires g c = let so_far = c.loop-slot.invariant in
     (sweep-fits _ _ _ _ _ so_far c.requires.0, omega arith)
 
 pub overflow_add-emptied : goal.overflow_add-emptied
-overflow_add-emptied c = let so_far = number-le _ _ _ _ _ c.loop-slot.invariant in
+overflow_add-emptied g c = let so_far = number-le _ _ _ _ _ c.loop-slot.invariant in
     let more = goes-le c.kept-keep.result in
     omega (arith, c.settle-emptied.ensures.number)
 
 pub loop-slot-preserved : goal.loop-slot-preserved
-loop-slot-preserved c = let so_far = c.loop-slot.invariant in
+loop-slot-preserved g c = let so_far = c.loop-slot.invariant in
     let entry = c.slot_at-e.ensures in
     let test = c.kept-keep.ensures in
     let settled = c.settle-emptied.ensures in
     sweep-turn _ _ _ _ _ so_far _ _ (omega arith) entry test _ _ settled.buffer settled.number
 
 pub shape_of-buffer : goal.shape_of-buffer
-shape_of-buffer c = same-run _ _ _ _ _ c.loop-slot.invariant _ _ refl refl c.requires.0
+shape_of-buffer g c = same-run _ _ _ _ _ c.loop-slot.invariant _ _ refl refl c.requires.0
 
 pub returns : goal.returns
-returns c = sweep-end _ _ _ _ _ c.loop-slot.invariant (omega arith)
+returns g c = sweep-end _ _ _ _ _ c.loop-slot.invariant (omega arith)

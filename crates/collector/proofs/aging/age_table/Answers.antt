@@ -5,6 +5,7 @@ use native.Mathlib.Omega.{arith}
 use Rattle.collector.proofs.TurnLaws.{going-none, going-length, going-fits, going-given, going-emptied, going-visit}
 use Rattle.collector.proofs.TurnLaws.{going-skip, going-all}
 use Rattle.collector.proofs.aging.age_table.Goals as goal
+use Rattle.collector.proofs.aging.age_table.Goals.{then-is_visited, else-is_visited}
 
 pub loop-k-init : goal.loop-k-init
 loop-k-init c = going-none _ _ _ _
@@ -44,15 +45,13 @@ age_leaf-aged-requires c = let start = c.requires in
       omega (arith, start, going-emptied _ _ _ _ _ _ so_far),
     )
 
-pub loop-k-preserved-then-is_visited : goal.loop-k-preserved-then-is_visited
-loop-k-preserved-then-is_visited c = going-visit _ _ _ _ _ _
-    c.loop-k.invariant (omega arith) _ _ refl
-    c.is_visited.ensures
-    c.if-is_visited.true _ c.age_leaf-aged.ensures
-
 pub loop-k-preserved : goal.loop-k-preserved
-loop-k-preserved c = going-skip _ _ _ _ _ _ c.loop-k.invariant (omega arith) _ _ refl
-    c.is_visited.ensures c.if-is_visited.false
+loop-k-preserved c = elim c.if-is_visited.branch [
+  | then-is_visited w ↦ rw (w.buffer-is, w.words-is, w.aged-is) (going-visit _ _ _ _ _ _ c.loop-k.invariant (omega arith) _ _ refl
+      c.is_visited.ensures w.if-is_visited.true _ w.age_leaf-aged.ensures)
+  | else-is_visited w ↦ rw (w.buffer-is, w.words-is, w.aged-is) (going-skip _ _ _ _ _ _ c.loop-k.invariant (omega arith) _ _ refl
+      c.is_visited.ensures w.if-is_visited.false)
+]
 
 pub shape_of-buffer : goal.shape_of-buffer
 shape_of-buffer c = fits-length _ (going-fits _ _ _ _ _ _ c.loop-k.invariant ∙ c.requires.0)

@@ -5,6 +5,7 @@ use Rattle.page_table.specs.Stretches.{directory_word}
 use Rattle.collector.proofs.TreeTurns.{climbing-none, climbing-length, climbing-fits, climbing-given, climbing-emptied}
 use Rattle.collector.proofs.TreeTurns.{climbing-table, climbing-on, climbing-skip, climbing-all}
 use Rattle.collector.proofs.aging.age_tree.Goals as goal
+use Rattle.collector.proofs.aging.age_tree.Goals.{then-leads_on, else-leads_on}
 
 pub loop-j-init : goal.loop-j-init
 loop-j-init c = climbing-none _ _ _ _
@@ -46,19 +47,14 @@ age_table-aged-requires c = let start = c.requires in
       omega (arith, start, climbing-emptied _ _ _ _ _ _ so_far),
     )
 
-pub loop-j-preserved-then-leads_on : goal.loop-j-preserved-then-leads_on
-unfolding directory_word
-loop-j-preserved-then-leads_on c = climbing-on _ _ _ _ _ _
-    c.loop-j.invariant _
-    c.requires.4
-    (omega arith) _ refl _ c.leads_on.ensures
-    c.if-leads_on.true _
-    c.number_of.ensures _ c.age_table-aged.ensures
-
 pub loop-j-preserved : goal.loop-j-preserved
 unfolding directory_word
-loop-j-preserved c = climbing-skip _ _ _ _ _ _ c.loop-j.invariant _
-    c.requires.4 (omega arith) _ refl _ c.leads_on.ensures c.if-leads_on.false
+loop-j-preserved c = elim c.if-leads_on.branch [
+  | then-leads_on w ↦ rw (w.buffer-is, w.words-is, w.aged-is) (climbing-on _ _ _ _ _ _ c.loop-j.invariant _ c.requires.4
+      (omega arith) _ refl _ c.leads_on.ensures w.if-leads_on.true _ w.number_of.ensures _ w.age_table-aged.ensures)
+  | else-leads_on w ↦ rw (w.buffer-is, w.words-is, w.aged-is) (climbing-skip _ _ _ _ _ _ c.loop-j.invariant _ c.requires.4
+      (omega arith) _ refl _ c.leads_on.ensures w.if-leads_on.false)
+]
 
 pub shape_of-buffer : goal.shape_of-buffer
 shape_of-buffer c = fits-length _ (climbing-fits _ _ _ _ _ _ c.loop-j.invariant ∙ c.requires.0)

@@ -1,11 +1,8 @@
-use Prim.Native.Nat.{◌-◌, ◌*◌, ◌≤◌}
+use Prim.Native.Nat.{◌*◌}
 use mathlib.Core.Path.{◌≡◌}
 use Rattle.runs.specs.Counts.{count}
 use Rattle.heap.proofs.BitLaws.{held_within}
 use Rattle.heap.proofs.bits.held_frames.Given as goal
 
 abbrev pub invariant-loop-k : goal.invariant-loop-k
-invariant-loop-k l = (l.k ≤ 64) × (l.number ≡ count (held_within l.bits l.size) (64 * l.k))
-
-abbrev pub decreases-loop-k : goal.decreases-loop-k
-decreases-loop-k l = 64 - l.k
+invariant-loop-k l = l.number ≡ count (held_within l.bits l.size) (64 * l.k)

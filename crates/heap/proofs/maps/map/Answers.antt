@@ -1,3 +1,5 @@
+use mathlib.Core.Path.{refl, sym}
+use Rattle.registers.proofs.RefusalLaws.{refused-ne0}
 use native.Mathlib.Omega.{arith}
 use Rattle.heap.specs.Pools.{lowest_free}
 use Rattle.heap.proofs.PoolLaws.{frames-now}
@@ -8,29 +10,29 @@ pub returns-then-not-frames_fit : goal.returns-then-not-frames_fit
 returns-then-not-frames_fit c = let refusal = map-unfit _ _ _ _ c.frames_fit.ensures c.if-not-frames_fit.true-raw in
     map-refused _ _ _ _ 1 _ refusal (λ z. omega arith) c.refused_map.ensures
 
-pub returns-then-refusal-ne0 : goal.returns-then-refusal-ne0
-returns-then-refusal-ne0 c = let test = c.frames_fit.ensures in
+pub returns-in-Err : goal.returns-in-Err
+returns-in-Err c = let test = c.frames_fit.ensures in
     let tested = c.if-not-frames_fit.false-raw in
-    let refusal = map-no-store _ _ _ _ test tested _ c.store_refusal-refusal.ensures c.if-refusal-ne0.true in
-    map-refused _ _ _ _ _ _ refusal c.if-refusal-ne0.true c.refused_map-then-refusal-ne0.ensures
+    let refusal = map-no-store _ _ _ _ test tested _ c.in-Err.ensures (refused-ne0 _) in
+    map-refused _ _ _ _ _ _ refusal (refused-ne0 _) c.refused_map-in-Err.ensures
 
-pub lowest_free-place-requires : goal.lowest_free-place-requires
-lowest_free-place-requires c = let test = c.frames_fit.ensures in
+pub lowest_free-requires : goal.lowest_free-requires
+lowest_free-requires c = let test = c.frames_fit.ensures in
     (frames-now _ _ _ test c.if-not-frames_fit.false-raw).at_most
 
-pub returns-then-place-pool : goal.returns-then-place-pool
+pub returns-in_default-lowest_free : goal.returns-in_default-lowest_free
 unfolding lowest_free
-returns-then-place-pool c = let test = c.frames_fit.ensures in
+returns-in_default-lowest_free c = let test = c.frames_fit.ensures in
     let tested = c.if-not-frames_fit.false-raw in
-    let store = c.store_refusal-refusal.ensures in
-    let accepted = c.if-refusal-ne0.false in
-    let refusal = map-full _ _ _ _ test tested _ store accepted _ c.lowest_free-place.ensures c.if-place-pool.true in
-    map-refused _ _ _ _ 10 _ refusal (λ z. omega arith) c.refused_map-then-place-pool.ensures
+    let store = c.in_default.ensures in
+    let accepted = refl in
+    let refusal = map-full _ _ _ _ test tested _ store accepted _ (sym c.in_default-lowest_free.ensures) refl in
+    map-refused _ _ _ _ 10 _ refusal (λ z. omega arith) c.refused_map-in_default-lowest_free.ensures
 
 pub map_frame-requires : goal.map_frame-requires
 unfolding lowest_free
 map_frame-requires c = let test = c.frames_fit.ensures in
     let tested = c.if-not-frames_fit.false-raw in
-    let store = c.store_refusal-refusal.ensures in
-    let accepted = c.if-refusal-ne0.false in
-    may-map _ _ _ _ test tested _ store accepted _ c.lowest_free-place.ensures c.if-place-pool.false
+    let store = c.in_default.ensures in
+    let accepted = refl in
+    may-map _ _ _ _ test tested _ store accepted _ c.in-Some.ensures.0 (λ e. omega (arith, e, c.in-Some.ensures.1))

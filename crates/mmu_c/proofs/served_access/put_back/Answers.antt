@@ -14,14 +14,14 @@ pub bounds-slots-slot : goal.bounds-slots-slot
 bounds-slots-slot c = let l = slot-inside _ _ _ c.slot_of-slot.ensures
     (omega arith) in omega (arith, c.requires.0)
 
-pub put_number-requires : goal.put_number-requires
-put_number-requires c = let l = slot-inside _ _ _ c.slot_of-slot.ensures
+pub write-requires : goal.write-requires
+write-requires c = let l = slot-inside _ _ _ c.slot_of-slot.ensures
     (omega arith) in omega (arith, c.loop-set.invariant.long)
 
 pub loop-set-preserved : goal.loop-set-preserved
 loop-set-preserved c = put-more _ _ _ _ _ _ _ c.loop-set.invariant
     (omega arith) c.slot_of-slot.ensures
-    c.put_number.ensures
+    c.write.ensures
 
 pub shape_of-buffer : goal.shape_of-buffer
 shape_of-buffer c = c.loop-set.invariant.long ∙ sym c.requires.1

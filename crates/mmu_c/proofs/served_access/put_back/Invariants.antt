@@ -1,9 +1,5 @@
-use Prim.Native.Nat.{◌-◌}
 use Rattle.mmu_c.proofs.PutBack.{Putting}
 use Rattle.mmu_c.proofs.served_access.put_back.Given as goal
 
 abbrev pub invariant-loop-set : goal.invariant-loop-set
 invariant-loop-set l = Putting l.slots l.initial.buffer l.buffer l.vpn l.set
-
-abbrev pub decreases-loop-set : goal.decreases-loop-set
-decreases-loop-set l = 4 - l.set

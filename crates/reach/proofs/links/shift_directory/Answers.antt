@@ -1,19 +1,24 @@
-use mathlib.Core.Path.{refl}
-use native.Mathlib.Omega.{arith}
+use Rattle.std.proofs.Common.{ℕ, List, ◌≤◌, ◌≡◌, ◌+◌, ◌*◌, ◌<◌, length, get_or, ap, arith}
+use Rattle.page_table.specs.Stretches.{stretch}
+use Rattle.reach.proofs.Searches.{directory-long, directory-place}
 use Rattle.reach.proofs.LinkLaws.{shifted_none, shifted_fits, shifted-more, shifted-all}
 use Rattle.reach.proofs.links.shift_directory.Goals as goal
 
-pub loop-k-init : goal.loop-k-init
-loop-k-init c = shifted_none _ _ _ _
+pub loop-word-init : goal.loop-word-init
+loop-word-init c = shifted_none _ _ _ _
 
 pub shift-requires : goal.shift-requires
-shift-requires c = shifted_fits _ _ _ _ _ _ _ c.loop-k.invariant c.requires.1 (omega arith) refl
+shift-requires c =
+    let h = directory-place _ _ _ _ c.requires.0 c.directory-word-items.ensures c.loop-word-test.true in
+    shifted_fits _ _ _ _ _ _ _ c.loop-word.invariant c.requires.1 h.0 h.1
 
-pub loop-k-preserved : goal.loop-k-preserved
-loop-k-preserved c = shifted-more _ _ _ _ _ _ _ _ c.loop-k.invariant (omega arith) refl c.shift.ensures
-
-pub shape_of-links : goal.shape_of-links
-shape_of-links c = c.loop-k.invariant.long
+pub loop-word-preserved : goal.loop-word-preserved
+loop-word-preserved c =
+    let h = directory-place _ _ _ _ c.requires.0 c.directory-word-items.ensures c.loop-word-test.true in
+    shifted-more _ _ _ _ _ _ _ _ c.loop-word.invariant h.0 h.1 c.shift.ensures
 
 pub returns : goal.returns
-returns c = shifted-all _ _ _ _ _ _ c.loop-k.invariant (omega arith)
+returns c =
+    let long = directory-long _ _ c.requires.0 in
+    let same = ap length c.directory-word-items.ensures in
+    shifted-all _ _ _ _ _ _ c.loop-word.invariant (omega (arith, long, same))

@@ -1,6 +1,6 @@
-use mathlib.Core.Path.{◌∙◌}
+use mathlib.Core.Path.{refl}
 use native.Mathlib.Omega.{arith}
-use borrow.Author.Tests.{not-false}
+use Rattle.std.proofs.lemmas.Result.{err_from_is_err_and}
 use Rattle.report.proofs.TotalLaws.{two-stop, two-done, book-as, amount-small, change-small, wide-passed, change-passed}
 use Rattle.report.proofs.gains.book_store.Goals as goal
 
@@ -12,14 +12,15 @@ book-requires c = (
   amount-small _ c.args.emptied (wide-passed c.wide-amount.result c.args.emptied c.wide-amount.ensures (omega arith)) (omega arith),
 )
 
-pub returns-then-not-book : goal.returns-then-not-book
-returns-then-not-book c = two-stop _ _ _ _ _ _
-    (book-as _ _ _ _ _ _ _ (wide-passed c.wide-amount.result c.args.emptied c.wide-amount.ensures (omega arith)) c.book.ensures) c.if-not-book.true-raw
+pub returns-in_err-book : goal.returns-in_err-book
+returns-in_err-book c = let p = err_from_is_err_and c.from_residual.result c.from_residual.ensures.1 in
+    rw p.1 (two-stop _ _ _ _ _ _
+    (book-as _ _ _ _ _ _ _ (wide-passed c.wide-amount.result c.args.emptied c.wide-amount.ensures (omega arith)) c.in_err-book.ensures) refl)
 
 pub book-requires-2 : goal.book-requires-2
 book-requires-2 c = (
-  c.totals-1.given ∙ c.requires.0,
-  c.book.ensures.in-limit (not-false c.book.result c.if-not-book.false-raw),
+  omega arith,
+  c.in_ok-book.ensures.in-limit refl,
   omega arith,
   change-small _ c.args.after c.args.before (change-passed c.difference-change.result c.args.after c.args.before c.difference-change.ensures
       (omega arith) (omega arith)) (omega arith) (omega arith),
@@ -27,5 +28,5 @@ book-requires-2 c = (
 
 pub returns : goal.returns
 returns c = two-done _ _ _ _ _ _
-    (book-as _ _ _ _ _ _ _ (wide-passed c.wide-amount.result c.args.emptied c.wide-amount.ensures (omega arith)) c.book.ensures) c.if-not-book.false-raw _ _
+    (book-as _ _ _ _ _ _ _ (wide-passed c.wide-amount.result c.args.emptied c.wide-amount.ensures (omega arith)) c.in_ok-book.ensures) refl _ _
     (book-as _ _ _ _ _ _ _ (change-passed c.difference-change.result c.args.after c.args.before c.difference-change.ensures (omega arith) (omega arith)) c.book-2.ensures)

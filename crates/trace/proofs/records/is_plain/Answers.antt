@@ -4,4 +4,4 @@ use Rattle.trace.proofs.records.is_plain.Goals as goal
 
 pub returns : goal.returns
 unfolding is_plain user_of write_of draw_of
-returns c = refl
+returns c = rw (c.flag.ensures, c.flag-2.ensures) refl

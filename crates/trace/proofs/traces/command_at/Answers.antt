@@ -8,4 +8,4 @@ pub returns-then-input-i : goal.returns-then-input-i
 returns-then-input-i c = cut_short _ _ (omega arith)
 
 pub returns : goal.returns
-returns c = c.command_of.ensures ∙ ap command_of c.number_at-bits.ensures.number ∙ whole _ _ (omega arith)
+returns c = c.command_of.ensures ∙ ap command_of c.read-bits.ensures.number ∙ whole _ _ (omega arith)

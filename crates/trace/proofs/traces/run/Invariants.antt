@@ -1,4 +1,3 @@
-use Prim.Native.Nat.{◌-◌}
 use mathlib.Core.Path.{◌≡◌}
 use lib.ListN.{length}
 use Rattle.slots.specs.Buffer.Buffer.{Wide}
@@ -6,9 +5,8 @@ use Rattle.trace.proofs.TraceLaws.{Running}
 use Rattle.trace.proofs.traces.run.Given as goal
 
 abbrev pub invariant-loop-i : goal.invariant-loop-i
-invariant-loop-i l = Running (record { registers = l.initial.registers; buffer = Wide l.initial.buffer; words = l.initial.words }) l.number l.input l.initial.out l.count
-    (record { registers = l.registers; buffer = Wide l.buffer; words = l.words }) l.out l.at l.i
+invariant-loop-i l = Running (record { registers = l.initial.registers; buffer = Wide l.initial.buffer; words = l.initial.words }) l.number l.input
+    l.initial.text.bytes.now l.count
+    (record { registers = l.registers; buffer = Wide l.buffer; words = l.words }) l.text.bytes.now l.text.length l.i
     × (length l.buffer ≡ length l.initial.buffer) × (length l.words ≡ length l.initial.words)
-
-abbrev pub decreases-loop-i : goal.decreases-loop-i
-decreases-loop-i l = l.count - l.i
+    × (l.text.bytes.ghost_name ≡ l.initial.text.bytes.ghost_name)

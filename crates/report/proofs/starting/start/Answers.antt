@@ -1,5 +1,0 @@
-use Rattle.report.proofs.StartLaws.{starts}
-use Rattle.report.proofs.starting.start.Goals as goal
-
-pub returns : goal.returns
-returns c = starts _ _ _ _ _ _ _ _ _ _ _ c.requires.0 c.start-reply.ensures c.requires.1 c.requires.2 c.requires.3 c.requires.4 c.clear.ensures c.clear-2.ensures c.clear-3.ensures c.clear_totals.ensures
