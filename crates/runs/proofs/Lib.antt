@@ -2,7 +2,6 @@ pub mod Bools
 pub mod Bits
 pub mod Counts
 pub mod Flags
-pub mod Turns
 pub mod Pieces
 pub mod Fills
 pub mod Searches
