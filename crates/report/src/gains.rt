@@ -7,7 +7,8 @@ use crate::PastLimit;
 use crate::totals::book;
 use registers::Outcome;
 
-// The columns of the totals; those from 2 to 11 are the faults'.
+// The columns of the totals; those from 2 to 11 are the faults'. They are numbers and no enum: a total's place and a fault's column are
+// counted from them.
 const SERVED: u32 = 0;
 
 const LOADS: u32 = 1;

@@ -38,6 +38,7 @@ impl<'a> Replay<'a> {
         ensures counted { CountGives (tally_step (machine_in self.old) self.old.totals.now (Asked.Store index value)) (is_ok result) self.new }
     {
         let context = self.registers.context;
+        // The runs get names: of a field that is lent as it is, a proof would know the length alone behind the call.
         let words = &mut *self.words;
         let links = &mut *self.links;
         let presents = &mut *self.presents;

@@ -14,7 +14,7 @@ impl<'a> Replay<'a> {
         ensures runs { SameRuns self.old self.new }
         ensures counted { CountGives (tally_of (machine_in self.old) self.old.totals.now (commands_of input.now)) (is_ok result) self.new }
     {
-        let count = (input.len() + 7) / 8;
+        let count = input.len().div_ceil(8);
         for i in 0..count {
             self.count_step(trace::command_at(input, i))?;
         }

@@ -43,7 +43,8 @@ pub enum Ending {
     Whole,
 }
 
-// After the files of some arguments: the next argument, the last file, and whether its lines could be written.
+// After the files of some arguments: the next argument, the last file, and whether its lines could be written (`ReportGives` speaks of all
+// three at once).
 #[derive(Clone, Copy)]
 pub struct Reported {
     pub next: usize,

@@ -19,12 +19,12 @@ returns-in_err-count_step c = let p = err_from_is_err_and c.from_residual.result
     rw p.1 (record {
       runs = runs-then c.args.self.now c.loop-i.self c.count_step.new.self c.loop-i.invariant.runs c.count_step.ensures.runs;
       counted = replayed-stop c.args.self.now _ _ c.loop-i.self _ c.loop-i.invariant c.loop-i-test.true _ c.command_at.ensures
-          false c.count_step.new.self c.in_err-count_step.ensures.counted refl refl;
+          false c.count_step.new.self c.in_err-count_step.ensures.counted refl (omega (arith, c.div_ceil-count.ensures));
     })
 
 pub returns : goal.returns
 unfolding record_count
 returns c = record {
   runs = c.loop-i.invariant.runs;
-  counted = replayed-all c.args.self.now _ _ c.loop-i.self _ c.loop-i.invariant (omega arith) refl;
+  counted = replayed-all c.args.self.now _ _ c.loop-i.self _ c.loop-i.invariant (omega arith) (omega (arith, c.div_ceil-count.ensures));
 }
