@@ -35,6 +35,7 @@ pub fn leads_to(length: usize, levels: u32, word: u32, number: usize) -> bool
 }
 
 // How many leaf words the tables have, by their index. The words themselves serve the contract only.
+// The index is two lent runs beside the words, and no struct here: the replay of crate report lends all three, and holds them in its own.
 pub fn leaf_count(words: &[u32], links: &[u32], presents: &[u32]) -> u32
     requires { (tables_fit words.now ≡ true) × Indexes words.now links.now presents.now }
     ensures { result ≡ leaf_count words.now }
