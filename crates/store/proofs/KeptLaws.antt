@@ -225,9 +225,9 @@ module _ (words : List ℕ) (b now : Buffer) (number slot : ℕ) (s : Sweeping w
     })
 
 -- a slot that is settled
-pub goes-le : (keep : Bool) → goes keep ≤ 1
+pub goes-le : (keep : Bool) (n : ℕ) → n ≡ goes keep → n ≤ 1
 unfolding goes
-goes-le keep = bit_le (not keep)
+goes-le keep n e = omega (arith, e, bit_le (not keep))
 
 module _ (keep : Bool) (slot : ℕ) (b : Buffer) where
   pub stays : keep ≡ true → (0 ≡ goes keep) × (b ≡ settled keep slot b)

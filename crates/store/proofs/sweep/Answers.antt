@@ -20,7 +20,7 @@ settle-emptied-requires g c = let so_far = c.loop-slot.invariant in
 
 pub overflow_add-emptied : goal.overflow_add-emptied
 overflow_add-emptied g c = let so_far = number-le _ _ _ _ _ c.loop-slot.invariant in
-    let more = goes-le c.kept-keep.result in
+    let more = goes-le _ _ c.settle-emptied.ensures.number in
     omega (arith, c.settle-emptied.ensures.number)
 
 pub loop-slot-preserved : goal.loop-slot-preserved
