@@ -8,7 +8,6 @@ pub mod start;
 pub mod table_store;
 
 ghost use Rattle.std.specs.Prelude.{true, ◌≡◌, ◌^◌, ◌≤◌, ◌<◌, length};
-ghost use Rattle.runs.specs.Bits.{bit};
 ghost use Rattle.wire.specs.Wire.{AreBytes};
 ghost use Rattle.entry.specs.Address.{vpn_of};
 ghost use Rattle.access.specs.Translation.{Accepted, translate};
@@ -59,12 +58,6 @@ fn answer_of(given: Result<u64, Refusal>) -> u64
     }
 }
 
-fn bit(flag: bool) -> u64
-    ensures { (result ≡ bit flag) × (result ≤ 1) }
-{
-    flag as u64
-}
-
 // The bits of an access's answer.
 fn access_answer(
     address: u32,
@@ -77,7 +70,9 @@ fn access_answer(
     requires { (value < 2 ^ 16) × (loads < 16) }
     ensures { result ≡ access_answer address value loads located interrupts exception }
 {
-    let flags = bit(located) * BIT_52 + bit(interrupts) * BIT_53 + bit(exception) * BIT_54;
+    let flags = u64::from(located) * BIT_52
+        + u64::from(interrupts) * BIT_53
+        + u64::from(exception) * BIT_54;
     address as u64 + value as u64 * BIT_32 + loads as u64 * BIT_48 + flags
 }
 
