@@ -14,7 +14,7 @@ ghost use Rattle.control.specs.Setting.{GuardedSettingGives, is_guarded, setting
 
 use registers::{Refusal, Registers, Reply};
 
-// Register numbers.
+// Register numbers. They are no enum: a caller may give any number (`is_register`), and the theorems on reads and writes go over all of them.
 const CONTEXT: u32 = 5;
 
 const TLB_HI: u32 = 7;

@@ -14,7 +14,7 @@ pub fn mmu_guarded_setting(registers: &mut [u8], number: u32, value: u32) -> u64
     let r = crate::registers_of(registers);
     let reply = control::guarded_setting(r, number, value);
     let answer = crate::reply_answer(reply);
-    // A setting that is accepted answers 0.
+    // A setting that is accepted answers 0. The test is of the call's 64-bit answer, which C gets as it is.
     let accepted = answer == 0;
     if !accepted {
         return answer;

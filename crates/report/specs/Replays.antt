@@ -1,5 +1,5 @@
 -- What a replay works on, and what it needs of the runs that it is lent.
-use Rattle.std.specs.Prelude.{ℕ, ◌≡◌, true, length}
+use Rattle.std.specs.Prelude.{◌≡◌, true, length}
 use Rattle.page_table.specs.Stretches.{tables_fit}
 use Rattle.registers.specs.declared.Reply.{Reply}
 use Rattle.slots.specs.Buffer.Buffer.{Wide}

@@ -34,13 +34,6 @@ fn fault_column(kind: u32) -> Option<u32>
     }
 }
 
-// The number as a signed one.
-fn wide(n: u32) -> i64
-    ensures { result ≡ pos n }
-{
-    n as i64
-}
-
 // The first number minus the second, which may be below zero.
 fn difference(a: u32, b: u32) -> i64
     ensures { result ≡ pos a -ℤ pos b }
@@ -56,7 +49,7 @@ fn book_served(totals: &mut [i64], id: u32, loads: u32) -> Result<(), PastLimit>
     ensures { BookAllGives id (gain SERVED (pos 1) ∷ gain LOADS (pos loads) ∷ []) totals.old (is_ok result) totals.new }
 {
     book(totals, id, SERVED, 1)?;
-    let amount = wide(loads);
+    let amount = i64::from(loads);
     book(totals, id, LOADS, amount)
 }
 
@@ -102,7 +95,7 @@ pub(crate) fn book_store(
     ensures { BookAllGives id (gain EMPTIED (pos emptied) ∷ gain CHANGE (pos after -ℤ pos before) ∷ [])
         totals.old (is_ok result) totals.new }
 {
-    let amount = wide(emptied);
+    let amount = i64::from(emptied);
     book(totals, id, EMPTIED, amount)?;
     let change = difference(after, before);
     book(totals, id, CHANGE, change)

@@ -7,7 +7,8 @@ ghost use Rattle.report.specs.Totals.{TOTALS};
 
 use registers::Registers;
 
-// The start state, zero tables with their index, and totals that are all 0.
+// The start state, zero tables with their index, and totals that are all 0. A function that makes the `Replay` was tried: behind a call that
+// answers a struct with lent runs, a proof knows no more than how long each run is.
 pub fn start(
     buffer: &mut [u64],
     words: &mut [u32],

@@ -21,7 +21,8 @@ struct Lines {
     written: bool,
 }
 
-// Puts an argument at the start of a run, and answers how many bytes it has: none where it is missing or longer than the run.
+// Puts an argument at the start of a run, and answers how many bytes it has: none where it is missing or longer than the run. An Option is
+// no plainer: a file without a name is unread, as one with a name of no bytes is.
 fn put_argument<E: Env>(host: &E, argument: usize, path: &mut [u8]) -> usize
     ensures { result ≤ length path.new }
 {
@@ -63,6 +64,7 @@ pub fn run<H: Env + Files, W: Write>(
     ensures report { ReportGives count result words.new input.new out.new }
     ensures puts { result.written ≡ true → ReportPuts (result.next - 1) (W.contents writer.old) (W.contents writer.new) }
 {
+    // A `while`, since it also ends where lines could not be written: a `for` would answer at two places.
     let mut next: usize = 1;
     let mut file = unopened(0);
     let mut written = true;

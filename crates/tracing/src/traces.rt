@@ -47,6 +47,7 @@ pub fn run_blocks<R: Read, W: Write>(
         (Buffer.Wide buffer.new) words.new input.new
         (R.remaining reader.old) (R.remaining reader.new) (W.contents writer.old) (W.contents writer.new) }
 {
+    // A `while`, since each turn tests the block that the one before answered.
     let mut last = run_block(reader, writer, r, buffer, words, 0, input, out);
     while goes_on(last) {
         let registers = last.registers;

@@ -13,9 +13,9 @@ book-requires-2 c = (
   omega arith,
   c.in_ok-book.ensures.in-limit refl,
   omega arith,
-  amount-small _ c.args.loads (wide-passed c.wide-amount.result c.args.loads c.wide-amount.ensures (omega arith)) (omega arith),
+  amount-small _ c.args.loads (wide-passed c.from-amount.result c.args.loads c.from-amount.ensures (omega arith)) (omega arith),
 )
 
 pub returns : goal.returns
 returns c = two-done _ _ _ _ _ _ c.in_ok-book.ensures refl _ _
-    (book-as _ _ _ _ _ _ _ (wide-passed c.wide-amount.result c.args.loads c.wide-amount.ensures (omega arith)) c.book-2.ensures)
+    (book-as _ _ _ _ _ _ _ (wide-passed c.from-amount.result c.args.loads c.from-amount.ensures (omega arith)) c.book-2.ensures)
