@@ -67,7 +67,7 @@ fn fill_digits(part: &mut [u8], base: u64, n: u64)
     }
 }
 
-// How many decimal digits a number has. The loop is a `while`, since std has no `ilog10` here.
+// How many decimal digits a number has. It divides as its definition does; std's `checked_ilog10` is told by powers of ten.
 fn decimal_length(n: u64) -> usize
     ensures { (result ≡ decimal_length n) × (result ≤ 20) }
 {

@@ -153,7 +153,7 @@ fn miss(i: u32) -> Access {
 }
 
 // Each scenario is a loop, no fold of a closure: a step is handed what the last one left, and lends the buffer and the words again. They and
-// the registers stay three parameters: the borrow checker does not cover a call that is lent two fields behind one reference.
+// the registers stay three parameters, as the calls take them: a struct would be taken apart at each call.
 
 // Raw accesses. One that is refused ends them.
 fn run_raw(r: Registers, buffer: &[u64], count: u32) -> u64 {

@@ -83,7 +83,7 @@ fn read_call(input: &mut impl Read, q: Request) -> Option<Call> {
 }
 
 // Makes a request's call, and writes the answer's words, the registers, and the pool or the state after it. The slots are no field beside the
-// words: the borrow checker does not cover a call that is lent two fields behind one reference.
+// words: the borrow checker does not cover a call that is lent parts of two fields behind one reference.
 fn answer_call(
     output: &mut impl Write,
     q: Request,

@@ -11,8 +11,7 @@ loop-total-init c = (growing-none _ _ _ _ _ (totals-none _ _), refl)
 
 pub put_total-requires : goal.put_total-requires
 put_total-requires c =
-    let part = part-length _ _ c.requires.1 in
-    let here : c.loop-total.total-index < 14 = omega (arith, part, c.loop-total-test.true) in
+    let here : c.loop-total.total-index < 14 = omega (arith, c.requires.1, c.loop-total-test.true) in
     growing-room _ _ _ _ _ _ _ _ c.loop-total.invariant.0 here (omega (arith, c.requires.0))
 
 pub loop-total-preserved : goal.loop-total-preserved
