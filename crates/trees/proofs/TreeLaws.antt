@@ -1,6 +1,6 @@
 -- The tests of a tree, in the code's words: from what the calls before have told. Assumes nothing.
 use Prim.Native.Nat.{ℕ, ◌+◌, ◌*◌, ◌/◌, ◌≤◌}
-use mathlib.Core.Path.{◌≡◌, refl, sym, ap, ap₂, subst, ◌∙◌}
+use mathlib.Core.Path.{◌≡◌, refl, sym, subst, ◌∙◌}
 use mathlib.Core.Bool.{Bool, true, false, not, ◌&&◌}
 use mathlib.Core.List.{List}
 use lib.ListN.{length, get_or}
@@ -62,16 +62,12 @@ module _ (words : List ℕ) (d e : ℕ) where
 module _ (words : List ℕ) (id d r : ℕ) where
   pub root-own : r ≡ id → false ≡ meets_root words id d r
   unfolding meets_root
-  root-own h =
-      sym (ap (λ (own : Bool). not own && leads_on (length words) 1 (get_or words r 0) && meets words d (number (get_or words r 0)))
-      (eq-eqb r id h))
+  root-own h = rw (eq-eqb r id h)
 
   module _ (other : r ≡ id → ⊥) (on : Bool) (leads : on ≡ leads_on (length words) 1 (get_or words r 0)) where
     pub root-nowhere : not on ≡ true → false ≡ meets_root words id d r
     unfolding meets_root
-    root-nowhere h =
-        sym (ap₂ (λ (own goes : Bool). not own && goes && meets words d (number (get_or words r 0))) (ne_eqb r id other)
-        (sym leads ∙ not-true on h))
+    root-nowhere h = rw (ne_eqb r id other, sym leads ∙ not-true on h)
 
     pub root-there : not on ≡ false → (e : ℕ) → e ≡ number (get_or words r 0) → (b : Bool) → b ≡ meets words d e → b ≡ meets_root words id d r
     unfolding meets_root
