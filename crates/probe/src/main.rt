@@ -15,7 +15,7 @@ use mups16::State;
 use mups16_calls::Operation;
 use registers::Registers;
 use std::io::{Read, Write};
-use tables::{Count, Tables, WORDS};
+use tables::{Count, Tables, WORD_BYTES, WORDS};
 
 // How many slots a request brings at most: more than a buffer has.
 const SLOTS: usize = 80;
@@ -105,25 +105,32 @@ fn answer_call(
 }
 
 // Reads a request and replies. None where the input ends before, and at a request that the program doesn't know.
-fn step(input: &mut impl Read, output: &mut impl Write, tables: &mut Tables) -> Option<()> {
+fn step(
+    input: &mut impl Read,
+    output: &mut impl Write,
+    tables: &mut Tables,
+    bytes: &mut [u8; WORD_BYTES],
+) -> Option<()> {
     let q = read_request(input)?;
     let call = read_call(input, q)?;
     let mut room = [0u64; SLOTS];
     let slots = &mut room[..q.slots.number];
     parts::read_run(input, slots)?;
-    tables.read(input, q.words)?;
+    tables.read(input, bytes, q.words)?;
     answer_call(output, q, call, slots, tables);
     parts::write_run(output, slots);
     if q.kind == Kind::Unit(UnitCall::TableWords) {
-        tables.write(output);
+        tables.write(output, bytes);
     }
     Some(())
 }
 
-// A proved loop has to end, and nothing says that the input does: so the requests are counted.
+// A proved loop has to end, and nothing says that the input does: so the requests are counted. The room for the words' bytes is made once,
+// and not for each request.
 fn run(input: &mut impl Read, output: &mut impl Write, tables: &mut Tables) {
+    let mut bytes = [0u8; WORD_BYTES];
     for _ in 0..u64::MAX {
-        if step(input, output, tables).is_none() {
+        if step(input, output, tables, &mut bytes).is_none() {
             return;
         }
     }

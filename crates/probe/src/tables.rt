@@ -7,7 +7,8 @@ use std::io::{Read, Write};
 // How many table words a request brings at most, and their bytes.
 pub(crate) const WORDS: usize = 16384;
 
-const WORD_BYTES: usize = 4 * WORDS;
+// Room for the bytes of the words, on their way in and out.
+pub(crate) const WORD_BYTES: usize = 4 * WORDS;
 
 // A number of which there is room for so many.
 #[derive(Clone, Copy)]
@@ -43,19 +44,22 @@ impl Tables {
     }
 
     // Reads so many words; where these are none, the ones that are kept stay. None where the input ends before.
-    pub(crate) fn read(&mut self, input: &mut impl Read, count: Count<WORDS>) -> Option<()> {
+    pub(crate) fn read(
+        &mut self,
+        input: &mut impl Read,
+        bytes: &mut [u8; WORD_BYTES],
+        count: Count<WORDS>,
+    ) -> Option<()> {
         let n = count.number;
         if n != 0 {
-            let mut bytes = [0u8; WORD_BYTES];
             parts::read_by(input, &mut bytes[..4 * n], &mut self.words[..n])?;
             self.kept = count;
         }
         Some(())
     }
 
-    pub(crate) fn write(&self, output: &mut impl Write) {
+    pub(crate) fn write(&self, output: &mut impl Write, bytes: &mut [u8; WORD_BYTES]) {
         let n = self.kept.number;
-        let mut bytes = [0u8; WORD_BYTES];
         parts::write_by(output, &mut bytes[..4 * n], &self.words[..n]);
     }
 }
