@@ -1,5 +1,6 @@
 -- The words after the store are the words with the one written.
-use Rattle.std.proofs.Common.{arith}
+use Rattle.std.proofs.Common.{arith, rules}
+use Rattle.slots.specs.Buffer.{buffer_fits}
 use Rattle.table_bytes.proofs.Words.{word-inside, roots-stay, rewritten}
 use Rattle.table_bytes.proofs.rewrite.Goals as goal
 
@@ -10,4 +11,5 @@ pub returns : goal.returns
 returns c = rewritten _ _ _ _ _ _ _ c.requires.2 (omega arith) c.write.ensures c.sweep.ensures
 
 pub sweep-requires : goal.sweep-requires
-sweep-requires c = (c.requires.0, roots-stay _ _ _ _ c.requires.1 c.requires.2 c.write.ensures)
+unfolding buffer_fits
+sweep-requires c = (search rules, roots-stay _ _ _ _ c.requires.1 c.requires.2 c.write.ensures)
