@@ -1,9 +1,9 @@
 use Rattle.mups16.proofs.ReadLaws.{low-refused, low-done}
 use Rattle.mups16.proofs.reads.read_low.Goals as goal
 
-pub returns-in_err-entries : goal.returns-in_err-entries
-returns-in_err-entries c = low-refused _ _ c.in_err-entries.ensures.1 _ c.from_residual.ensures.1
-
 pub returns : goal.returns
 returns c = let run = c.in_ok-entries.ensures.1 in
     low-done _ _ run.long _ run.same _ _ c.place_of.ensures c.entry_at-e.ensures _ c.page_of.ensures
+
+pub returns-in_err-entries : goal.returns-in_err-entries
+returns-in_err-entries c = low-refused _ _ c.in_err-entries.ensures.1 _ c.from_residual.ensures.1
